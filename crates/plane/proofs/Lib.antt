@@ -1,0 +1,17 @@
+pub mod Basics
+pub mod Runs
+pub mod Lists
+pub mod Tiling
+pub mod Index
+pub mod Tables
+pub mod ToTable
+pub mod Walks
+pub mod Listings
+pub mod Alongs
+pub mod FromTable
+pub mod Counting
+pub mod Shares
+pub mod Checked
+pub mod Lowests
+pub mod Vets
+pub mod Asked

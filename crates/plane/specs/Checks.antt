@@ -1,0 +1,57 @@
+-- What each check of a table's words finds: steps of `vet`, which no reader of its promise needs.
+use Prim.Native.Nat.{ℕ, zero, suc, _+_, _-_, _*_, _≤_, _<_}
+use mathlib.Core.Path.{_≡_}
+use mathlib.Core.List.{List}
+use lib.ListN.{length, getD}
+use Rattle.plane.specs.declared.tile.Tile.{Tile}
+use Rattle.plane.specs.Strips.{Box}
+use Rattle.plane.specs.Plane.{Boxes, InOrder, Stitches, ZeroAfter}
+use Rattle.plane.specs.Words.{count, width, height, kinds, word, tileOf}
+
+-- a tile's own numbers
+pub record Boxed (w h k : ℕ) (a : Tile) : Type 0 where
+  pub box : Box w h a
+  pub type : a .kind < k
+
+-- tile j begins at x on row y
+pub record Starts (ws : List ℕ) (j x y : ℕ) : Type 0 where
+  pub counted : j < count ws
+  pub left : word ws j 0 ≡ x
+  pub low : word ws j 1 ≤ y
+  pub high : y < word ws j 3
+
+-- on each row a tile begins at the left border
+abbrev pub Column : List ℕ → Type 0
+Column ws = (y : ℕ) → y < height ws → (j : ℕ) × Starts ws j 0 y
+
+-- on each row of tile i a tile of another type begins where tile i ends
+abbrev pub Side : List ℕ → ℕ → Type 0
+Side ws i = word ws i 2 < width ws → (y : ℕ) → word ws i 1 ≤ y → y < word ws i 3 → (j : ℕ) × Starts ws j (word ws i 2) y × (word ws i 4 ≡ word ws j 4 → ⊥)
+
+-- the tile that rt names has another span or type
+abbrev pub Upper : List ℕ → ℕ → Type 0
+Upper ws i = word ws i 3 < height ws → word ws (word ws i 8) 0 ≡ word ws i 0 → word ws (word ws i 8) 2 ≡ word ws i 2 → word ws (word ws i 8) 4 ≡ word ws i 4 → ⊥
+
+-- it holds of each tile
+abbrev pub Every : List ℕ → (List ℕ → ℕ → Type 0) → Type 0
+Every ws P = (i : ℕ) → i < count ws → P ws i
+
+-- f 0 + .. + f (n - 1)
+unfoldable pub sumTo : ℕ → (ℕ → ℕ) → ℕ
+sumTo zero f = 0
+sumTo (suc n) f = sumTo n f + f n
+
+-- how many squares tile i has
+abbrev pub squaresOf : List ℕ → ℕ → ℕ
+squaresOf ws i = (word ws i 2 - word ws i 0) * (word ws i 3 - word ws i 1)
+
+-- how many squares the first n tiles have
+abbrev pub areas : List ℕ → ℕ → ℕ
+areas ws n = sumTo n (squaresOf ws)
+
+-- what is checked of the tiles one by one
+pub record Sound (ws : List ℕ) : Type 0 where
+  pub boxes : Boxes ws
+  pub order : InOrder ws
+  pub stitches : Stitches ws
+  pub rest : ZeroAfter ws
