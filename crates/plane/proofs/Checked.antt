@@ -6,17 +6,18 @@ use mathlib.Core.Logic.{⊎-elim}
 use mathlib.Core.List.{List}
 use Rattle.plane.specs.Strips.{Box, Holds}
 use Rattle.plane.specs.Words.{count, width, height, word, tileOf, Header}
-use Rattle.plane.specs.Plane.{Sized, Stitches, Boxes, Sides, Apart, Covered, Disjoint, ZeroAfter, InOrder, Plane}
-use Rattle.plane.specs.Checks.{Starts, Column, Side, Upper, Every, areas}
+use Rattle.plane.specs.Plane.{Names, Sized, Stitches, Boxes, Sides, Apart, Covered, Disjoint, ZeroAfter, InOrder, Plane}
+use Rattle.plane.specs.Checks.{Starts, Column, Upper, Frames, areas}
 use Rattle.plane.proofs.Basics.{lt-or-ge}
 use Rattle.plane.proofs.Counting.{no-overlap, adds-up}
 use Rattle.plane.proofs.Index.{later}
+use Rattle.plane.proofs.ToTable.{begins-there}
 
 -- a tile that begins at x on row y holds (x,y)
 pub starts-holds : (ws : List ℕ) (j x y : ℕ) → Boxes ws → Starts ws j x y → Holds (tileOf ws j) x y
 starts-holds ws j x y B s = record { from-left = omega (arith, s .left); to-right = omega (arith, s .left, B .box j (s .counted) .wide); from-bottom = s .low; to-top = s .high }
 
-module _ (ws : List ℕ) (B : Boxes ws) (C : Column ws) (S : Every ws Side) where
+module _ (ws : List ℕ) (B : Boxes ws) (C : Column ws) (F : Frames ws) where
   pub covers : Covered ws
   covers zero y a b = let j = C y b in (j .0, j .1 .counted, starts-holds ws (j .0) 0 y B (j .1))
   covers (suc x) y a b =
@@ -26,7 +27,7 @@ module _ (ws : List ℕ) (B : Boxes ws) (C : Column ws) (S : Every ws Side) wher
       (λ (u : suc x < word ws (i .0) 2). (i .0, i .1, record { from-left = omega (arith, q .from-left); to-right = u; from-bottom = q .from-bottom; to-top = q .to-top }))
       (λ (u : word ws (i .0) 2 ≤ suc x).
       let e : word ws (i .0) 2 ≡ suc x = omega (arith, q .to-right) in
-      let j = S (i .0) (i .1) (omega arith) y (q .from-bottom) (q .to-top) in
+      let j = F (i .0) (i .1) .side (omega arith) y (q .from-bottom) (q .to-top) in
       (j .0, j .1 .counted, subst (λ (n : ℕ). Holds (tileOf ws (j .0)) n y) e (starts-holds ws (j .0) (word ws (i .0) 2) y B (j .1))))
       (lt-or-ge (suc x) (word ws (i .0) 2))
 
@@ -43,13 +44,13 @@ module _ (ws : List ℕ) (B : Boxes ws) (C : Column ws) (S : Every ws Side) wher
     sides i j u v y a e =
         let bj : Box (width ws) (height ws) (tileOf ws j) = B .box j v in
         let l : word ws j 0 ≡ word ws i 2 = a .joins in
-        let k = S i u (omega (arith, bj .wide, bj .inside)) y (a .low-s) (a .high-s) in
+        let k = F i u .side (omega (arith, bj .wide, bj .inside)) y (a .low-s) (a .high-s) in
         let q : j ≡ k .0 = disjoint j (k .0) (word ws i 2) y v (k .1 .counted)
         (record { from-left = omega arith; to-right = omega (arith, bj .wide); from-bottom = a .low-t; to-top = a .high-t })
         (starts-holds ws (k .0) (word ws i 2) y B (k .1)) in
         k .2 (e ∙ ap (λ (m : ℕ). word ws m 4) q)
 
-    module _ (T : Stitches ws) (U : Every ws Upper) where
+    module _ (T : Stitches ws) where
       apart : Apart ws
       apart i j u v a =
           let bi : Box (width ws) (height ws) (tileOf ws i) = B .box i u in
@@ -63,7 +64,7 @@ module _ (ws : List ℕ) (B : Boxes ws) (C : Column ws) (S : Every ws Side) wher
           let q : j ≡ word ws i 8 = disjoint j (word ws i 8) (word ws i 2 - 1) (word ws i 3) v (n .counted)
           (record { from-left = omega (arith, bi .wide); to-right = omega (arith, bi .wide); from-bottom = omega arith; to-top = omega (arith, bj .tall) })
           (n .held) in
-          U i u t (ap (λ (m : ℕ). word ws m 0) (sym q) ∙ g) (ap (λ (m : ℕ). word ws m 2) (sym q) ∙ h) (ap (λ (m : ℕ). word ws m 4) (sym q) ∙ k)
+          F i u .upper t (ap (λ (m : ℕ). word ws m 0) (sym q) ∙ g) (ap (λ (m : ℕ). word ws m 2) (sym q) ∙ h) (ap (λ (m : ℕ). word ws m 4) (sym q) ∙ k)
 
       pub checks-plane : Sized ws → Header ws → InOrder ws → ZeroAfter ws → Plane ws
       checks-plane L H O Z = record { sized = L; header = H; boxes = B; order = O; cover = covers; one = disjoint; sides = sides; apart = apart; stitches = T; rest = Z }
@@ -71,7 +72,7 @@ module _ (ws : List ℕ) (B : Boxes ws) (C : Column ws) (S : Every ws Side) wher
 pub plane-areas : (ws : List ℕ) → Plane ws → areas ws (count ws) ≡ width ws * height ws
 plane-areas ws P = adds-up (width ws) (height ws) (count ws) (tileOf ws) (P .boxes .box) (P .cover) (P .one)
 
-pub plane-upper : (ws : List ℕ) → Plane ws → Every ws Upper
+pub plane-upper : (ws : List ℕ) → Plane ws → (i : ℕ) → i < count ws → Upper ws i
 plane-upper ws P i u t f g h =
     let n = P .stitches i u .rt .0 t in
     let j = word ws i 8 in
@@ -145,3 +146,33 @@ border-end ws edge i P u b =
     absurd (omega (arith, b .tops (m .0) (omega (arith, m .1)) (omega (arith, m .2 .from-left)), m .2 .to-top)))
     (λ s. omega (arith, b .under))
     (lt-or-ge edge (height ws))
+
+-- ---- down the right side of tile i, which is known from row y up; tile s is the next
+pub record Down (ws : List ℕ) (i y s : ℕ) : Type 0 where
+  pub most : y ≤ word ws i 3
+  pub next : word ws i 1 < y → Names ws s (word ws i 2) (y - 1)
+  pub known : (z : ℕ) → y ≤ z → z < word ws i 3 → (j : ℕ) × Starts ws j (word ws i 2) z × (word ws i 4 ≡ word ws j 4 → ⊥)
+
+pub down-first : (ws : List ℕ) (i : ℕ) → Boxes ws → Stitches ws → i < count ws → (word ws i 2 ≡ width ws → ⊥) → Down ws i (word ws i 3) (word ws i 7)
+down-first ws i B T u f =
+    let b = B .box i u in
+    record { most = omega arith; next = λ _. T i u .tr .0 (omega (arith, b .inside, f)); known = λ z p q. absurd (omega arith) }
+
+pub down-next : (ws : List ℕ) (i y s : ℕ) → Stitches ws → Down ws i y s → word ws i 1 < y → word ws s 0 ≡ word ws i 2 → (word ws i 4 ≡ word ws s 4 → ⊥) → Down ws i (word ws s 1) (word ws s 5)
+down-next ws i y s T D u e f =
+    let n = D .next u in
+    record {
+      most = omega (arith, n .held, D .most);
+      next = λ v. subst (λ (x : ℕ). Names ws (word ws s 5) x (word ws s 1 - 1)) e (T s (n .counted) .lb .0 (omega arith));
+      known = λ z p q. ⊎-elim (λ (v : z < y). (s, record { counted = n .counted; left = e; low = p; high = omega (arith, n .held) }, f)) (λ (v : y ≤ z). D .known z v q) (lt-or-ge z y);
+    }
+
+-- in a plane the next tile begins where tile i ends, and has another type
+module _ (ws : List ℕ) (i y s : ℕ) (P : Plane ws) (o : i < count ws) (D : Down ws i y s) (u : word ws i 1 < y) where
+  pub down-begins : word ws s 0 ≡ word ws i 2
+  down-begins = let n = D .next u in begins-there ws P i s (y - 1) o (n .counted) (omega arith) (omega (arith, D .most)) (n .held)
+
+  pub down-differs : word ws i 4 ≡ word ws s 4 → ⊥
+  down-differs =
+      let n = D .next u in
+      P .sides i s o (n .counted) (y - 1) (record { joins = down-begins; low-s = omega arith; high-s = omega (arith, D .most); low-t = n .held .from-bottom; high-t = n .held .to-top })

@@ -185,3 +185,11 @@ picture-table c ws p H R E K =
       types = λ x y a b. rw (shows c ws p H R E K x y a b) (K x y a b);
       same = E ∙ ap (written c w h (kinds ws)) (tiles-agree w h p (pictureOf ws) (λ x y a b. sym (shows c ws p H R E K x y a b)));
     }
+
+-- a picture has one table for a room: two tables of one size that show the same picture are the same words
+pub one-table : (c : ℕ) (ws vs : List ℕ) → IsTable c ws → IsTable c vs → width ws ≡ width vs → height ws ≡ height vs → kinds ws ≡ kinds vs → ((x y : ℕ) → x < width ws → y < height ws → pictureOf ws x y ≡ pictureOf vs x y) → ws ≡ vs
+unfolding table
+one-table c ws vs I J a b d agree =
+    I .same
+    ∙ (ap (written c (width ws) (height ws) (kinds ws)) (tiles-agree (width ws) (height ws) (pictureOf ws) (pictureOf vs) agree)
+    ∙ ((λ i. table c (a i) (b i) (d i) (pictureOf vs)) ∙ sym (J .same)))

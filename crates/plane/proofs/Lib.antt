@@ -1,3 +1,4 @@
+-- The laws of the tile plane, each file named after its subject.
 pub mod Basics
 pub mod Runs
 pub mod Lists
@@ -15,3 +16,5 @@ pub mod Checked
 pub mod Lowests
 pub mod Vets
 pub mod Asked
+pub mod Once
+pub mod Handles

@@ -32,9 +32,14 @@ Side ws i = word ws i 2 < width ws → (y : ℕ) → word ws i 1 ≤ y → y < w
 abbrev pub Upper : List ℕ → ℕ → Type 0
 Upper ws i = word ws i 3 < height ws → word ws (word ws i 8) 0 ≡ word ws i 0 → word ws (word ws i 8) 2 ≡ word ws i 2 → word ws (word ws i 8) 4 ≡ word ws i 4 → ⊥
 
--- it holds of each tile
-abbrev pub Every : List ℕ → (List ℕ → ℕ → Type 0) → Type 0
-Every ws P = (i : ℕ) → i < count ws → P ws i
+-- the right side and the top of tile i
+pub record Framed (ws : List ℕ) (i : ℕ) : Type 0 where
+  pub side : Side ws i
+  pub upper : Upper ws i
+
+-- those of each tile
+abbrev pub Frames : List ℕ → Type 0
+Frames ws = (i : ℕ) → i < count ws → Framed ws i
 
 -- f 0 + .. + f (n - 1)
 unfoldable pub sumTo : ℕ → (ℕ → ℕ) → ℕ

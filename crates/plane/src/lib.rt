@@ -2,6 +2,7 @@
 pub mod answer;
 pub mod area;
 pub mod find;
+pub mod handle;
 pub mod listing;
 pub mod query;
 pub mod side;

@@ -18,7 +18,7 @@ ghost use lib.ListN.{length};
 ghost use Rattle.plane.specs.Answers.{number};
 ghost use Rattle.plane.specs.Words.{Says, Tells, Header, IsTable, count, width, height};
 ghost use Rattle.plane.specs.Plane.{Sized, Names, Link, Stitched, Stitches, Boxes, InOrder, ZeroAfter, Plane};
-ghost use Rattle.plane.specs.Checks.{Boxed, Column, Side, Upper, Every, areas, Sound};
+ghost use Rattle.plane.specs.Checks.{Boxed, Column, Side, Upper, Framed, Frames, areas, Sound};
 ghost use Rattle.plane.specs.Point.{Vetted, SizedRight};
 
 // Are the header's numbers in their ranges?
@@ -222,22 +222,6 @@ pub fn side(t: &[u16], i: usize) -> bool
     true
 }
 
-// Are the right sides of all tiles so?
-pub fn sides(t: &[u16]) -> bool
-    requires { ⌜ (Sized (now t)) × (Boxes (now t)) × (Stitches (now t)) ⌝ }
-    ensures { λ r. ⌜ Tells r (Every (now (t .entry)) Side) (Plane (now (t .entry))) ⌝ }
-{
-    let n = t[0] as usize;
-    let mut i: usize = 0;
-    while i < n {
-        if !side(t, i) {
-            return false;
-        }
-        i += 1;
-    }
-    true
-}
-
 // The tile above the right end of tile i is no continuation of it.
 pub fn upper(t: &[u16], i: usize) -> bool
     requires { ⌜ (Sized (now t)) × (i < count (now t)) × (Boxes (now t)) × (Stitches (now t)) ⌝ }
@@ -260,15 +244,29 @@ pub fn upper(t: &[u16], i: usize) -> bool
     false
 }
 
-// Are the tops of all tiles so?
-pub fn uppers(t: &[u16]) -> bool
+// The right side and the top of tile i.
+pub fn framed(t: &[u16], i: usize) -> bool
+    requires { ⌜ (Sized (now t)) × (i < count (now t)) × (Boxes (now t)) × (Stitches (now t)) ⌝ }
+    ensures { λ r. ⌜ Tells r (Framed (now (t .entry)) i) (Plane (now (t .entry))) ⌝ }
+{
+    if !side(t, i) {
+        return false;
+    }
+    if !upper(t, i) {
+        return false;
+    }
+    true
+}
+
+// The right sides and the tops of all tiles.
+pub fn frames(t: &[u16]) -> bool
     requires { ⌜ (Sized (now t)) × (Boxes (now t)) × (Stitches (now t)) ⌝ }
-    ensures { λ r. ⌜ Says r (Every (now (t .entry)) Upper) ⌝ }
+    ensures { λ r. ⌜ Tells r (Frames (now (t .entry))) (Plane (now (t .entry))) ⌝ }
 {
     let n = t[0] as usize;
     let mut i: usize = 0;
     while i < n {
-        if !upper(t, i) {
+        if !framed(t, i) {
             return false;
         }
         i += 1;
@@ -340,13 +338,10 @@ pub fn tiled(t: &[u16]) -> bool
     if !column(t) {
         return false;
     }
-    if !sides(t) {
+    if !frames(t) {
         return false;
     }
     if !fills(t) {
-        return false;
-    }
-    if !uppers(t) {
         return false;
     }
     true

@@ -1,3 +1,4 @@
+-- `query::neighbours_at` meets its contract: a law of Asked at each return. The first listing writes nothing, so a refusal leaves the slice.
 use Rattle.plane.proofs.Vets.{passed-plane, passed-words, sized-done}
 use Rattle.plane.proofs.Asked.{neighboured-no, neighboured-nowhere, neighboured-full, neighboured-done}
 use native.Mathlib.Omega.{arith}

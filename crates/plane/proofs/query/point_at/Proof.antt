@@ -1,3 +1,4 @@
+-- `query::point_at` meets its contract: a law of Asked at each return.
 use Rattle.plane.proofs.Vets.{passed-plane, sized-done}
 use Rattle.plane.proofs.Asked.{pointed-no, pointed-outside, pointed-at}
 use borrow.Author.Needs.{needs}

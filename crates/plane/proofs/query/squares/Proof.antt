@@ -1,3 +1,4 @@
+-- `query::squares` meets its contract: a law of Asked at each return.
 use Rattle.plane.proofs.Vets.{passed-plane, passed-words, vetted-done}
 use Rattle.plane.proofs.Asked.{squares-no, squares-nowhere, squares-done}
 use borrow.Author.Tests.{not-true, not-false}

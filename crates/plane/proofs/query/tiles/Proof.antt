@@ -1,3 +1,4 @@
+-- `query::tiles` meets its contract: a law of Asked at each return. The first listing writes nothing, so a refusal leaves the slice.
 use Rattle.plane.proofs.Vets.{passed-plane, passed-words, vetted-done}
 use Rattle.plane.proofs.Asked.{tiles-no, tiles-nowhere, tiles-full, tiles-done}
 use borrow.Author.Tests.{not-true, not-false}

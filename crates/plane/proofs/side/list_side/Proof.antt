@@ -1,3 +1,4 @@
+-- `side::list_side` meets its contract. The loop's invariant is `Along`: the numbers before square j are listed, and a new run begins there. The measure is what is left of the side.
 use Rattle.plane.proofs.Alongs.{Along, along-none, along-next, along-border, along-done, side-past}
 use native.Mathlib.Omega.{arith}
 use Prim.Native.Nat.{_-_}

@@ -1,3 +1,4 @@
+-- `side::one_before` meets its contract, by cases on whether there is a lower place.
 use Rattle.plane.proofs.Alongs.{before-some, before-none}
 use borrow.Author.Needs.{needs}
 use Rattle.plane.proofs.side.one_before.Statement.{statement}

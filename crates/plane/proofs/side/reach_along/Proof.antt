@@ -1,3 +1,4 @@
+-- `side::reach_along` meets its contract, side by side.
 use Rattle.plane.proofs.Alongs.{reach-across}
 use mathlib.Core.Path.{sym, _∙_}
 use borrow.Author.Needs.{needs}

@@ -1,3 +1,4 @@
+-- `side::side_length` meets its contract, side by side.
 use mathlib.Core.Path.{sym}
 use Rattle.plane.proofs.Alongs.{length-across}
 use borrow.Author.Needs.{needs}

@@ -1,3 +1,4 @@
+-- `side::square_beside` meets its contract, side by side; j lies within the side, so no sum wraps.
 use Rattle.plane.proofs.Alongs.{length-across}
 use mathlib.Core.Path.{_≡_}
 use native.Mathlib.Omega.{arith}

@@ -1,3 +1,4 @@
+-- `tile::precedes` meets its contract, by its three tests.
 use native.Mathlib.Omega.{arith}
 use mathlib.Core.Logic.{inl, inr, ⊎-elim}
 use Rattle.plane.proofs.tile.precedes.Statement.{statement}

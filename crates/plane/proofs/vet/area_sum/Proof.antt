@@ -1,3 +1,4 @@
+-- `vet::area_sum` meets its contract. The invariant: the sum is that of the tiles passed, and at most 16,777,216 for each.
 use Prim.Native.Nat.{_≤_, _-_, _*_}
 use native.Mathlib.Omega.{arith}
 use mathlib.Core.Path.{_≡_, refl}

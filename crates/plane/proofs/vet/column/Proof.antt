@@ -1,3 +1,4 @@
+-- `vet::column` meets its contract. The invariant is `Border`: the left border is covered from the bottom up to `edge`.
 use Prim.Native.Nat.{_≤_, _-_}
 use native.Mathlib.Omega.{arith}
 use mathlib.Core.Path.{_≡_, refl, sym, _∙_, ap}

@@ -1,3 +1,4 @@
+-- `vet::fills` meets its contract: the product of width and height fits.
 use native.Mathlib.Omega.{arith}
 use borrow.Author.Needs.{needs}
 use Rattle.plane.specs.Words.{width, height}

@@ -1,3 +1,4 @@
+-- `vet::header` meets its contract, by the range test.
 use borrow.Author.Tests.{not-true, not-false}
 use native.Mathlib.Omega.{arith}
 use borrow.Author.Needs.{needs}

@@ -1,3 +1,4 @@
+-- `vet::in_order` meets its contract. The invariant: each tile passed comes before the next.
 use Prim.Native.Nat.{ℕ, suc, _≤_, _<_, _-_}
 use native.Mathlib.Omega.{arith}
 use mathlib.Core.Path.{_≡_, refl, sym, _∙_, ap, subst₂}

@@ -1,3 +1,4 @@
+-- `vet::is_table` meets its contract: what the checks find together is a plane, and a plane of the right length is a table (`plane-table`, `table-plane`).
 use Rattle.plane.proofs.FromTable.{table-plane}
 use Rattle.plane.proofs.ToTable.{plane-table}
 use borrow.Author.Tests.{not-true, not-false}

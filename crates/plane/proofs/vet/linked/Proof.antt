@@ -1,3 +1,4 @@
+-- `vet::linked` meets its contract, inside and outside the window.
 use native.Mathlib.Omega.{arith}
 use borrow.Author.Needs.{needs}
 use Rattle.plane.proofs.vet.linked.Statement.{statement}

@@ -1,3 +1,4 @@
+-- `vet::names` meets its contract: the number is a tile's, and the tile holds the square.
 use native.Mathlib.Omega.{arith}
 use borrow.Author.Needs.{needs}
 use Rattle.plane.proofs.vet.names.Statement.{statement}

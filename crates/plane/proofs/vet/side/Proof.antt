@@ -1,19 +1,14 @@
-use Prim.Native.Nat.{ℕ, _≤_, _<_, _-_}
-use native.Mathlib.Omega.{arith}
-use mathlib.Core.Path.{_≡_, sym, _∙_, ap}
-use mathlib.Core.Logic.{⊎-elim}
-use borrow.Author.Needs.{needs}
+-- `vet::side` meets its contract. The invariant is `Down`: the right side is known from row y up. The measure is y.
+use Rattle.plane.proofs.Checked.{Down, down-first, down-next, down-begins, down-differs}
 use Rattle.plane.specs.declared.tile.Tile.{Tile}
-use Rattle.plane.specs.Words.{word}
-use Rattle.plane.proofs.Basics.{lt-or-ge}
-use Rattle.plane.specs.Plane.{Names}
-use Rattle.plane.specs.Checks.{Starts}
-use Rattle.plane.proofs.ToTable.{begins-there}
+use mathlib.Core.Path.{sym, ap}
+use native.Mathlib.Omega.{arith}
+use borrow.Author.Needs.{needs}
 use Rattle.plane.proofs.vet.side.Statement.{statement}
 use Rattle.plane.proofs.vet.side.Tie as tie
 
 abbrev Inv-loop : tie.InvT-loop
-Inv-loop t i a y₀ s₀ y s = (y ≤ word t i 3) × (word t i 1 < y → Names t s (word t i 2) (y - 1)) × ((z : ℕ) → y ≤ z → z < word t i 3 → (j : ℕ) × Starts t j (word t i 2) z × (word t i 4 ≡ word t j 4 → ⊥))
+Inv-loop t i a y₀ s₀ y s = Down t i y s
 
 abbrev μ-loop : tie.MeasureT-loop
 μ-loop t i a y₀ s₀ y s = y
@@ -25,78 +20,40 @@ shared-slice-read-if1 : tie.Need-shared-slice-read-if1 Inv-loop μ-loop
 shared-slice-read-if1 c = search needs
 
 returns : tie.Need-returns Inv-loop μ-loop
-returns c = λ u. absurd (omega (arith, ap (λ (a : Tile). a .right) (c .before .before .before .nth-tile .ensures)))
+returns c = λ u. absurd (omega (arith, ap (λ (b : Tile). b .right) (c .before .before .before .nth-tile .ensures)))
 
 word-at-requires : tie.Need-word-at-requires Inv-loop μ-loop
 word-at-requires c κs = search needs
 
 loop-holds : tie.Need-loop-holds Inv-loop μ-loop
-loop-holds c = let s = c .before .before .before .before .before .before in
-    let a = c .before .before .before .before .nth-tile .ensures in
-    let at = ap (λ (a : Tile). a .top) a in
-    let ar = ap (λ (a : Tile). a .right) a in
-    let b = s .pre .2 .box (s .args .i) (s .pre .1) in (
-      omega arith,
-      λ u. rw (c .word-at .ensures, at) (s .pre .3 (s .args .i) (s .pre .1) .tr .0 (omega (arith, b .inside, c .before .if1 .left))),
-      λ z p q. absurd (omega arith),
-    )
+loop-holds c = rw (c .before .before .before .before .nth-tile .ensures, c .word-at .ensures) (down-first (c .before .before .before .before .before .before .args .t .now) (c .before .before .before .before .before .before .args .i) (c .before .before .before .before .before .before .pre .2) (c .before .before .before .before .before .before .pre .3) (c .before .before .before .before .before .before .pre .1) (rw (c .before .before .before .before .nth-tile .ensures) at (c .before .if1 .left)))
 
 cast-nth-tile : tie.Need-cast-nth-tile Inv-loop μ-loop
-cast-nth-tile c = let n = c .before .before .loop .inv .1 (omega (arith, ap (λ (a : Tile). a .bottom) (c .before .before .before .before .before .before .before .nth-tile .ensures))) in
-    omega (arith, n .counted)
+cast-nth-tile c = let n = c .before .before .loop .inv .next (rw (c .before .before .before .before .before .before .before .nth-tile .ensures) at (c .if2 .taken)) in omega (arith, n .counted)
 
 nth-tile-requires-2 : tie.Need-nth-tile-requires-2 Inv-loop μ-loop
-nth-tile-requires-2 c κs = let n = c .before .before .loop .inv .1 (omega (arith, ap (λ (a : Tile). a .bottom) (c .before .before .before .before .before .before .before .nth-tile .ensures))) in
-    omega (arith, n .counted)
+nth-tile-requires-2 c κs = let n = c .before .before .loop .inv .next (rw (c .before .before .before .before .before .before .before .nth-tile .ensures) at (c .if2 .taken)) in omega (arith, n .counted)
 
 returns-2 : tie.Need-returns-2 Inv-loop μ-loop
-returns-2 c = let s = c .before .before .before .before .before .before .before .before .before .before .before .before .before in
-    let l = c .before .before .before .before .before .before .loop in
-    let a = c .before .before .before .before .before .before .before .before .before .before .before .nth-tile .ensures in
-    let ab = ap (λ (a : Tile). a .bottom) a in
-    let n = l .inv .1 (omega (arith, c .before .before .before .before .if2 .taken)) in
-    λ P. c .if3 .taken (ap (λ (a : Tile). a .left) (c .before .before .before .nth-tile2 .ensures) ∙
-    (begins-there _ P (s .args .i) (l .s) (l .y - 1) (s .pre .1) (n .counted) (omega arith) (omega arith) (n .held) ∙ sym (ap (λ (a : Tile). a .right) a)))
+returns-2 c = λ P. (rw (c .before .before .before .before .before .before .before .before .before .before .before .nth-tile .ensures, c .before .before .before .nth-tile2 .ensures) at (c .if3 .taken)) (down-begins (c .before .before .before .before .before .before .before .before .before .before .before .before .before .args .t .now) (c .before .before .before .before .before .before .before .before .before .before .before .before .before .args .i) (c .before .before .before .before .before .before .loop .y) (c .before .before .before .before .before .before .loop .s) P (c .before .before .before .before .before .before .before .before .before .before .before .before .before .pre .1) (c .before .before .before .before .before .before .loop .inv) (rw (c .before .before .before .before .before .before .before .before .before .before .before .nth-tile .ensures) at (c .before .before .before .before .if2 .taken)))
 
 returns-3 : tie.Need-returns-3 Inv-loop μ-loop
-returns-3 c = let s = c .before .before .before .before .before .before .before .before .before .before .before .before .before .before .before .before in
-    let l = c .before .before .before .before .before .before .before .before .before .loop in
-    let a = c .before .before .before .before .before .before .before .before .before .before .before .before .before .before .nth-tile .ensures in
-    let b = c .before .before .before .before .before .before .nth-tile2 .ensures in
-    let ab = ap (λ (a : Tile). a .bottom) a in
-    let n = l .inv .1 (omega (arith, c .before .before .before .before .before .before .before .if2 .taken)) in
-    λ P. P .sides (s .args .i) (l .s) (s .pre .1) (n .counted) (l .y - 1)
-    (record { joins = sym (ap (λ (a : Tile). a .left) b) ∙ (c .before .before .before .if3 .left ∙ ap (λ (a : Tile). a .right) a); low-s = omega arith; high-s = omega arith; low-t = n .held .from-bottom; high-t = n .held .to-top })
-    (sym (ap (λ (a : Tile). a .kind) a) ∙ (sym (c .if4 .taken) ∙ ap (λ (a : Tile). a .kind) b))
+returns-3 c = λ P. down-differs (c .before .before .before .before .before .before .before .before .before .before .before .before .before .before .before .before .args .t .now) (c .before .before .before .before .before .before .before .before .before .before .before .before .before .before .before .before .args .i) (c .before .before .before .before .before .before .before .before .before .loop .y) (c .before .before .before .before .before .before .before .before .before .loop .s) P (c .before .before .before .before .before .before .before .before .before .before .before .before .before .before .before .before .pre .1) (c .before .before .before .before .before .before .before .before .before .loop .inv) (rw (c .before .before .before .before .before .before .before .before .before .before .before .before .before .before .nth-tile .ensures) at (c .before .before .before .before .before .before .before .if2 .taken)) (sym (rw (c .before .before .before .before .before .before .before .before .before .before .before .before .before .before .nth-tile .ensures, c .before .before .before .before .before .before .nth-tile2 .ensures) at (c .if4 .taken)))
 
 cast-word-at : tie.Need-cast-word-at Inv-loop μ-loop
-cast-word-at c = let n = c .before .before .before .before .before .before .before .before .before .loop .inv .1 (omega (arith, c .before .before .before .before .before .before .before .if2 .taken, ap (λ (a : Tile). a .bottom) (c .before .before .before .before .before .before .before .before .before .before .before .before .before .before .nth-tile .ensures))) in
-    omega (arith, n .counted, c .before .before .before .before .before .before .before .before .before .before .before .before .before .before .before .before .pre .0 .whole, c .before .before .before .before .before .before .before .before .before .before .before .before .before .before .before .before .good .0)
+cast-word-at c = let n = c .before .before .before .before .before .before .before .before .before .loop .inv .next (rw (c .before .before .before .before .before .before .before .before .before .before .before .before .before .before .nth-tile .ensures) at (c .before .before .before .before .before .before .before .if2 .taken)) in omega (arith, n .counted, c .before .before .before .before .before .before .before .before .before .before .before .before .before .before .before .before .pre .0 .whole, c .before .before .before .before .before .before .before .before .before .before .before .before .before .before .before .before .good .0)
 
 word-at-requires-2 : tie.Need-word-at-requires-2 Inv-loop μ-loop
-word-at-requires-2 c κs = let n = c .before .before .before .before .before .before .before .before .before .loop .inv .1 (omega (arith, c .before .before .before .before .before .before .before .if2 .taken, ap (λ (a : Tile). a .bottom) (c .before .before .before .before .before .before .before .before .before .before .before .before .before .before .nth-tile .ensures))) in
-    omega (arith, n .counted, c .before .before .before .before .before .before .before .before .before .before .before .before .before .before .before .before .pre .0 .whole)
+word-at-requires-2 c κs = let n = c .before .before .before .before .before .before .before .before .before .loop .inv .next (rw (c .before .before .before .before .before .before .before .before .before .before .before .before .before .before .nth-tile .ensures) at (c .before .before .before .before .before .before .before .if2 .taken)) in omega (arith, n .counted, c .before .before .before .before .before .before .before .before .before .before .before .before .before .before .before .before .pre .0 .whole)
 
 loop-less : tie.Need-loop-less Inv-loop μ-loop
-loop-less c = let n = c .before .before .before .before .before .before .before .before .before .before .loop .inv .1 (omega (arith, c .before .before .before .before .before .before .before .before .if2 .taken, ap (λ (a : Tile). a .bottom) (c .before .before .before .before .before .before .before .before .before .before .before .before .before .before .before .nth-tile .ensures))) in
-    omega (arith, c .before .before .before .before .before .before .before .before .if2 .taken, n .held .from-bottom, ap (λ (a : Tile). a .bottom) (c .before .before .before .before .before .before .before .nth-tile2 .ensures))
+loop-less c = let n = c .before .before .before .before .before .before .before .before .before .before .loop .inv .next (rw (c .before .before .before .before .before .before .before .before .before .before .before .before .before .before .before .nth-tile .ensures) at (c .before .before .before .before .before .before .before .before .if2 .taken)) in rw (c .before .before .before .before .before .before .before .nth-tile2 .ensures) (omega (arith, n .held, rw (c .before .before .before .before .before .before .before .before .before .before .before .before .before .before .before .nth-tile .ensures) at (c .before .before .before .before .before .before .before .before .if2 .taken)))
 
 loop-again : tie.Need-loop-again Inv-loop μ-loop
-loop-again c = let s = c .before .before .before .before .before .before .before .before .before .before .before .before .before .before .before .before .before in
-    let l = c .before .before .before .before .before .before .before .before .before .before .loop in
-    let a = c .before .before .before .before .before .before .before .before .before .before .before .before .before .before .before .nth-tile .ensures in
-    let b = c .before .before .before .before .before .before .before .nth-tile2 .ensures in
-    let ab = ap (λ (a : Tile). a .bottom) a in
-    let bb = ap (λ (a : Tile). a .bottom) b in
-    let n = l .inv .1 (omega (arith, c .before .before .before .before .before .before .before .before .if2 .taken)) in
-    let g = sym (ap (λ (a : Tile). a .left) b) ∙ (c .before .before .before .before .if3 .left ∙ ap (λ (a : Tile). a .right) a) in (
-      omega (arith, n .held .from-bottom),
-      λ u. rw (c .word-at2 .ensures, bb, ← g) (s .pre .3 (l .s) (n .counted) .lb .0 (omega arith)),
-      λ z p q. ⊎-elim (λ (v : z < l .y). (l .s, record { counted = n .counted; left = g; low = omega arith; high = omega (arith, n .held .to-top) }, λ k. c .before .if4 .left (ap (λ (a : Tile). a .kind) b ∙ (sym k ∙ sym (ap (λ (a : Tile). a .kind) a))))) (λ (v : l .y ≤ z). l .inv .2 z v q) (lt-or-ge z (l .y)),
-    )
+loop-again c = rw (c .before .before .before .before .before .before .before .nth-tile2 .ensures, c .word-at2 .ensures) (down-next (c .before .before .before .before .before .before .before .before .before .before .before .before .before .before .before .before .before .args .t .now) (c .before .before .before .before .before .before .before .before .before .before .before .before .before .before .before .before .before .args .i) (c .before .before .before .before .before .before .before .before .before .before .loop .y) (c .before .before .before .before .before .before .before .before .before .before .loop .s) (c .before .before .before .before .before .before .before .before .before .before .before .before .before .before .before .before .before .pre .3) (c .before .before .before .before .before .before .before .before .before .before .loop .inv) (rw (c .before .before .before .before .before .before .before .before .before .before .before .before .before .before .before .nth-tile .ensures) at (c .before .before .before .before .before .before .before .before .if2 .taken)) (rw (c .before .before .before .before .before .before .before .before .before .before .before .before .before .before .before .nth-tile .ensures, c .before .before .before .before .before .before .before .nth-tile2 .ensures) at (c .before .before .before .before .if3 .left)) (λ k. (rw (c .before .before .before .before .before .before .before .before .before .before .before .before .before .before .before .nth-tile .ensures, c .before .before .before .before .before .before .before .nth-tile2 .ensures) at (c .before .if4 .left)) (sym k)))
 
 returns-4 : tie.Need-returns-4 Inv-loop μ-loop
-returns-4 c = λ u z p q. c .before .before .loop .inv .2 z (omega (arith, ap (λ (a : Tile). a .bottom) (c .before .before .before .before .before .before .before .nth-tile .ensures))) q
+returns-4 c = λ u z p q. c .before .before .loop .inv .known z (omega (arith, rw (c .before .before .before .before .before .before .before .nth-tile .ensures) at (c .if2 .left))) q
 
 pub side-spec : {M : Type 1} → statement M
 side-spec =

@@ -1,3 +1,4 @@
+-- `vet::sound` meets its contract: each check is a part of `Sound`, and a field of a plane.
 use borrow.Author.Needs.{needs}
 use borrow.Author.Tests.{not-true, not-false}
 use Rattle.plane.proofs.vet.sound.Statement.{statement}

@@ -1,3 +1,4 @@
+-- `vet::squares` meets its contract: the product of two sides of at most 4,096 fits.
 use Prim.Native.Nat.{_-_}
 use native.Mathlib.Omega.{arith}
 use mathlib.Core.Path.{refl}

@@ -1,3 +1,4 @@
+-- `vet::stitched` meets its contract: one test a stitch, each on the square that document 01 names.
 use borrow.Author.Tests.{not-true, not-false}
 use borrow.Author.Needs.{needs}
 use Rattle.plane.proofs.vet.stitched.Statement.{statement}

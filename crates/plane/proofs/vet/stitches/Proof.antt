@@ -1,3 +1,4 @@
+-- `vet::stitches` meets its contract. The invariant: the tiles passed have true stitches.
 use Prim.Native.Nat.{ℕ, _≤_, _<_, _-_}
 use native.Mathlib.Omega.{arith}
 use mathlib.Core.Path.{_≡_, refl}

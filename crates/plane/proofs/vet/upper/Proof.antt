@@ -1,3 +1,4 @@
+-- `vet::upper` meets its contract, by the tests of span and type.
 use native.Mathlib.Omega.{arith}
 use mathlib.Core.Path.{sym, _∙_, ap}
 use borrow.Author.Needs.{needs}

@@ -1,3 +1,4 @@
+-- `vet::vet` meets its contract: length, then words.
 use borrow.Author.Tests.{not-true, not-false}
 use mathlib.Core.Logic.{inl, inr}
 use mathlib.Core.Path.{refl}

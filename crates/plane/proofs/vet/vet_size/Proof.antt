@@ -1,3 +1,4 @@
+-- `vet::vet_size` meets its contract: a law of Vets at each return.
 use Rattle.plane.proofs.Vets.{vetted-done, passed-words, sized-no, sized-other, sized-right}
 use native.Mathlib.Omega.{arith}
 use borrow.Author.Needs.{needs}

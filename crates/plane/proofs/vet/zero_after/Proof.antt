@@ -1,3 +1,4 @@
+-- `vet::zero_after` meets its contract. The invariant: the words passed behind the last tile are zero.
 use Prim.Native.Nat.{ℕ, _≤_, _<_, _-_, _+_, _*_}
 use native.Mathlib.Omega.{arith}
 use mathlib.Core.Path.{_≡_, refl}

@@ -1,3 +1,4 @@
+-- `words::header_word` meets its contract, within the slice and past its end.
 use lib.ListN.{List·getD-eq-default}
 use mathlib.Core.Path.{sym}
 use borrow.Author.Needs.{needs}

@@ -1,3 +1,4 @@
+-- `words::nth_tile` meets its contract: the five words of the tile.
 use borrow.Author.Needs.{needs}
 use Rattle.plane.proofs.words.nth_tile.Statement.{statement}
 use Rattle.plane.proofs.words.nth_tile.Tie as tie
