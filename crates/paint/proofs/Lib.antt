@@ -1,0 +1,15 @@
+pub mod Stores
+pub mod Places
+pub mod Stitches
+pub mod Pieces
+pub mod Spans
+pub mod Stays
+pub mod Grows
+pub mod Covers
+pub mod Fills
+pub mod Finish
+pub mod Whole
+pub mod OneTile
+pub mod Calls
+pub mod Once
+pub mod Again

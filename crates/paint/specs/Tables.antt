@@ -1,0 +1,59 @@
+-- Whole tables: the header, the words after the tiles, and the table of the picture after.
+use Prim.Native.Nat.{ℕ, _≤_, _<_}
+use mathlib.Core.Path.{_≡_}
+use mathlib.Core.Bool.{false}
+use mathlib.Core.List.{List}
+use lib.ListN.{length, getD}
+use Rattle.plane.specs.declared.tile.Area.{Area}
+use Rattle.plane.specs.Picture.{Picture, tiles, table}
+use Rattle.plane.specs.Words.{count, width, height, kinds, IsTable}
+use Rattle.plane.specs.Area.{AreaIn}
+use Rattle.paint.specs.declared.brush.Brush.{Brush}
+use Rattle.paint.specs.Brush.{BrushIn, goal}
+use Rattle.paint.specs.Cover.{TooMany}
+
+-- the header is set, and all else stays
+pub record Headed (ws vs : List ℕ) (n w h k : ℕ) : Type 0 where
+  pub long : length vs ≡ length ws
+  pub number : count vs ≡ n
+  pub wide : width vs ≡ w
+  pub tall : height vs ≡ h
+  pub types : kinds vs ≡ k
+  pub old : (m : ℕ) → 4 ≤ m → getD vs m 0 ≡ getD ws m 0
+
+-- the words from e on are zero, and those before stay
+pub record Cleared (ws vs : List ℕ) (e : ℕ) : Type 0 where
+  pub long : length vs ≡ length ws
+  pub zero : (m : ℕ) → e ≤ m → getD vs m 0 ≡ 0
+  pub old : (m : ℕ) → m < e → getD vs m 0 ≡ getD ws m 0
+
+-- r is the number of tiles of the picture after, and vs its table; or r and that number are above the room
+pub record Repainted (ws : List ℕ) (b : Brush) (room : ℕ) (vs : List ℕ) (r : ℕ) : Type 0 where
+  pub full : room < r → TooMany (width ws) (height ws) (goal ws b) room
+  pub number : r ≤ room → r ≡ length (tiles (width ws) (height ws) (goal ws b))
+  pub done : r ≤ room → vs ≡ table room (width ws) (height ws) (kinds ws) (goal ws b)
+
+-- a table of room c, and a brush for its window and types
+pub record MayPaint (c : ℕ) (ws : List ℕ) (b : Brush) : Type 0 where
+  pub table : IsTable c ws
+  pub small : c ≤ 3600
+  pub brush : BrushIn (width ws) (height ws) b
+  pub type : b .bits ≡ false → b .kind < kinds ws
+
+-- a table of room c, and an area of its window
+pub record Paintable (c : ℕ) (ws : List ℕ) (a : Area) : Type 0 where
+  pub table : IsTable c ws
+  pub small : c ≤ 3600
+  pub area : AreaIn (width ws) (height ws) a
+
+-- r is the number of tiles of the picture q, and vs its table, of the size and types of ws; or r and that number are above the room
+pub record PaintedTo (c : ℕ) (ws : List ℕ) (q : Picture) (vs : List ℕ) (r : ℕ) : Type 0 where
+  pub number : r ≤ c → r ≡ length (tiles (width ws) (height ws) q)
+  pub full : c < r → c < length (tiles (width ws) (height ws) q)
+  pub done : r ≤ c → vs ≡ table c (width ws) (height ws) (kinds ws) q
+  pub sound : r ≤ c → IsTable c vs
+
+-- ws becomes us, what was made, where r is within the room c, and stays where it is not
+pub record TakenOver (c r : ℕ) (ws us vs : List ℕ) : Type 0 where
+  pub done : r ≤ c → vs ≡ us
+  pub stays : c < r → vs ≡ ws
