@@ -5,8 +5,8 @@
 .PHONY: demo test fmt
 
 demo:
-	@rt check demo > target-demo.log 2>&1 || { cat target-demo.log; rm -f target-demo.log; exit 1; }
-	@rm -f target-demo.log
+	@mkdir -p target
+	@rt check demo > target/demo.log 2>&1 || { cat target/demo.log; exit 1; }
 	@target/bin/demo
 
 test:

@@ -79,6 +79,11 @@ fn ask_neighbours(t: &[u16], i: u16, side: u16) {
     }
 }
 
+// The area of four numbers.
+fn area_of(x1: u16, y1: u16, x2: u16, y2: u16) -> Area {
+    Area { x1, y1, x2, y2 }
+}
+
 // A new plane w by h, an area of it painted, and the table.
 fn show(t: &mut [u16], work: &mut [u16], w: u16, h: u16, a: Area) {
     io::write_all(1, b"blank");
@@ -92,36 +97,14 @@ fn main() {
     let mut work = [0u16; 31];
     let mut t = [0u16; 31];
     io::write_all(1, b"4 by 2, paint 1 0 2 2 1\n");
-    show(
-        &mut t,
-        &mut work,
-        4,
-        2,
-        Area {
-            x1: 1,
-            y1: 0,
-            x2: 2,
-            y2: 2,
-        },
-    );
+    show(&mut t, &mut work, 4, 2, area_of(1, 0, 2, 2));
     ask_point(&t, 3, 1);
     ask_point(&t, 4, 1);
     ask_neighbours(&t, 1, 0);
     ask_neighbours(&t, 1, 2);
     ask_neighbours(&t, 1, 3);
     io::write_all(1, b"3 by 2, paint 0 1 1 2 1\n");
-    show(
-        &mut t,
-        &mut work,
-        3,
-        2,
-        Area {
-            x1: 0,
-            y1: 1,
-            x2: 1,
-            y2: 2,
-        },
-    );
+    show(&mut t, &mut work, 3, 2, area_of(0, 1, 1, 2));
     ask_neighbours(&t, 0, 3);
     io::write_all(1, b"the same with tr of tile 1 bent to tile 1\n");
     t[20] = 1;
@@ -134,29 +117,7 @@ fn small_room() {
     let mut work = [0u16; 22];
     let mut t = [0u16; 22];
     io::write_all(1, b"room 2, 4 by 2, paint 1 0 2 2 1\n");
-    show(
-        &mut t,
-        &mut work,
-        4,
-        2,
-        Area {
-            x1: 1,
-            y1: 0,
-            x2: 2,
-            y2: 2,
-        },
-    );
+    show(&mut t, &mut work, 4, 2, area_of(1, 0, 2, 2));
     io::write_all(1, b"room 2, 4 by 2, paint 0 0 2 2 1\n");
-    show(
-        &mut t,
-        &mut work,
-        4,
-        2,
-        Area {
-            x1: 0,
-            y1: 0,
-            x2: 2,
-            y2: 2,
-        },
-    );
+    show(&mut t, &mut work, 4, 2, area_of(0, 0, 2, 2));
 }
