@@ -43,12 +43,12 @@ lowest-least m a (c ∷ cs) r (inl p) = ((λ v. absurd (omega (arith, p .1))), a
 lowest-least m a (c ∷ cs) r (inr p) = ((λ v. p .0), lowest-least (c .0) a cs (r .1) (p .1))
 
 -- ---- a call that tests in two steps
-lowest-first : (cs ds : List (ℕ × Type 0)) (a : ℕ) → Lowest cs a → 0 < a → Lowest (cs ++ ds) a
+pub lowest-first : (cs ds : List (ℕ × Type 0)) (a : ℕ) → Lowest cs a → 0 < a → Lowest (cs ++ ds) a
 lowest-first [] ds a p u = absurd (omega (arith, p))
 lowest-first (c ∷ cs) ds a (inl p) u = inl p
 lowest-first (c ∷ cs) ds a (inr p) u = inr (p .0, lowest-first cs ds a (p .1) u)
 
-left-as-is : {A : Type 0} (a : ℕ) (new old : A) → 0 < a → old ≡ ifDone a new old
+pub left-as-is : {A : Type 0} (a : ℕ) (new old : A) → 0 < a → old ≡ ifDone a new old
 left-as-is zero new old u = absurd (omega arith)
 left-as-is (suc n) new old u = refl
 
@@ -76,7 +76,7 @@ refused-first cs ds {a} {why} {old} {new} p e = record {
 }
 
 -- passed by the first step, and answered by the second
-lowest-after : (cs ds : List (ℕ × Type 0)) (a : ℕ) → AllHold cs → Lowest ds a → Lowest (cs ++ ds) a
+pub lowest-after : (cs ds : List (ℕ × Type 0)) (a : ℕ) → AllHold cs → Lowest ds a → Lowest (cs ++ ds) a
 lowest-after [] ds a p q = q
 lowest-after (c ∷ cs) ds a p q = inr (p .0, lowest-after cs ds a (p .1) q)
 

@@ -23,7 +23,7 @@ use Rattle.rules.proofs.Searches.{every-append}
 
 -- ---- the lowest bad rule
 module _ (ws : List ℕ) (used t : ℕ) where
-  lowest : Extent (soundAt ws t) 0 used (lowestBad ws used t)
+  pub lowest : Extent (soundAt ws t) 0 used (lowestBad ws used t)
   unfolding lowestBad
   lowest = extent-is (soundAt ws t) 0 used
 
@@ -55,7 +55,7 @@ module _ (ws : List ℕ) (used t : ℕ) where
       go true f e = let z : _≡_ {A = ℕ} 0 1 = cc in absurd (omega arith)
       go false f e = lowest .pass i (omega arith) (omega (arith, ltb-false (lowestBad ws used t) used f))
 
-  bad-lowest : (i : ℕ) → vetted ws used t ≡ BadAt i → (i ≡ lowestBad ws used t) × (AllSound ws used t → ⊥)
+  pub bad-lowest : (i : ℕ) → vetted ws used t ≡ BadAt i → (i ≡ lowestBad ws used t) × (AllSound ws used t → ⊥)
   unfolding vetted
   bad-lowest i e = go (ltb (lowestBad ws used t) used) refl e
     where

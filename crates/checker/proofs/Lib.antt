@@ -1,0 +1,11 @@
+-- The laws of the checker, each file named after its subject.
+pub mod Shapes
+pub mod Creates
+pub mod Paints
+pub mod Reports
+pub mod Ranges
+pub mod Packs
+pub mod Once
+pub mod Stays
+pub mod Shows
+pub mod Settles

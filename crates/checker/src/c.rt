@@ -1,0 +1,108 @@
+// The calls as C sees them: numbers and slices of words, and one number returned. Bits 0 to 7 are the paper's number, and the others are laid out as specs/Pack says.
+use crate::create::create;
+use crate::painting::paint;
+use crate::report::ReportAnswer;
+use crate::report::report;
+use plane::answer::Point;
+use plane::answer::answer_number;
+use plane::answer::refusal_number;
+use plane::handle::point;
+use plane::tile::Area;
+use plane::words::wide;
+ghost use mathlib.Core.Path.{_≡_};
+ghost use Rattle.plane.specs.Answers.{pointNumber, pointTile};
+ghost use Rattle.plane.specs.Picture.{area};
+ghost use Rattle.checker.specs.Answers.{reportNumber, reportPlace, reportSettled, reportSquares, reportTiles};
+ghost use Rattle.checker.specs.Create.{Created};
+ghost use Rattle.checker.specs.Layout.{lent};
+ghost use Rattle.checker.specs.Pack.{packReport, packPoint, Narrow, ReportPacked, PointPacked};
+ghost use Rattle.checker.specs.Paint.{Painted};
+
+// A report's answer in one number.
+fn pack_report(r: ReportAnswer) -> u64
+    requires { ⌜ Narrow (reportPlace r) (reportSettled r) (reportSquares r) (reportTiles r) ⌝ }
+    ensures { λ n. ⌜ n ≡ packReport (reportNumber r) (reportPlace r) (reportSettled r) (reportSquares r) (reportTiles r) ⌝ }
+{
+    match r {
+        ReportAnswer::Found {
+            settled,
+            squares,
+            tiles,
+        } => {
+            131072 * (settled as u64) + 262144 * (squares as u64) + 8796093022208 * (tiles as u64)
+        }
+        ReportAnswer::Lengths => 1,
+        ReportAnswer::NoTable => 3,
+        ReportAnswer::BadRule(i) => 4 + 256 * (i as u64),
+        ReportAnswer::NoPlace => 6,
+        ReportAnswer::Full => 7,
+    }
+}
+
+// A point's answer in one number.
+fn pack_point(r: Point) -> u64
+    ensures { λ n. ⌜ n ≡ packPoint (pointNumber r) (pointTile r) ⌝ }
+{
+    match r {
+        Point::At(i) => 131072 * (i as u64),
+        Point::No(why) => refusal_number(why),
+    }
+}
+
+#[no_mangle]
+pub extern "C" fn layout_create(
+    material: &mut [u16],
+    errors: &mut [u16],
+    waiting: &mut [u16],
+    w: u16,
+    h: u16,
+    t: u16,
+) -> u64
+    ensures { λ r. ⌜ Created (lent (now (material .entry)) (now (errors .entry)) (now (waiting .entry))) w h t r (lent (now (material .exit)) (now (errors .exit)) (now (waiting .exit))) ⌝ }
+{
+    answer_number(create(material, errors, waiting, w, h, t))
+}
+
+#[no_mangle]
+pub extern "C" fn layout_paint(
+    material: &mut [u16],
+    errors: &[u16],
+    waiting: &mut [u16],
+    work: &mut [u16],
+    x1: u16,
+    y1: u16,
+    x2: u16,
+    y2: u16,
+    kind: u16,
+) -> u64
+    ensures { λ r. ⌜ Painted (lent (now (material .entry)) (now (errors .entry)) (now (waiting .entry))) (now (work .entry)) (area x1 y1 x2 y2) kind r (lent (now (material .exit)) (now (errors .exit)) (now (waiting .exit))) (now (work .exit)) ⌝ }
+{
+    let a = Area { x1, y1, x2, y2 };
+    answer_number(paint(material, errors, waiting, work, a, kind))
+}
+
+#[no_mangle]
+pub extern "C" fn layout_report(
+    material: &[u16],
+    errors: &[u16],
+    waiting: &[u16],
+    rules: &[u16],
+    used: u16,
+    x1: u16,
+    y1: u16,
+    x2: u16,
+    y2: u16,
+    tiles: &mut [u16],
+) -> u64
+    ensures { λ r. ⌜ ReportPacked (lent (now (material .entry)) (now (errors .entry)) (now (waiting .entry))) (now (rules .entry)) used (area x1 y1 x2 y2) (now (tiles .entry)) r (now (tiles .exit)) ⌝ }
+{
+    let a = Area { x1, y1, x2, y2 };
+    pack_report(report(material, errors, waiting, rules, wide(used), a, tiles))
+}
+
+#[no_mangle]
+pub extern "C" fn layout_point(table: &[u16], x: u16, y: u16) -> u64
+    ensures { λ r. ⌜ PointPacked (now (table .entry)) x y r ⌝ }
+{
+    pack_point(point(table, x, y))
+}
