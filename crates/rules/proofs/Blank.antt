@@ -25,7 +25,7 @@ module _ (r : Rule) (ok : Apart r) (k : ℕ → ℕ → ℕ) (t : ℕ) (plain : 
       both (yes p) = ap (λ b. eqb (k i j) (r .type2) && b) (ne-eqb (k (suc i) j) (r .type1) (λ z. ok (sym z ∙ plain (suc i) j ∙ sym (plain i j) ∙ p))) ∙ and-false (eqb (k i j) (r .type2))
       both (no f) = ap (λ b. b && eqb (k (suc i) j) (r .type1)) (ne-eqb (k i j) (r .type2) f)
 
-  reached-none : reached r k ≡ false
+  pub reached-none : reached r k ≡ false
   unfolding reached turns
   reached-none =
       some-none (r .d) (λ i. edge r k i 0 || some (r .ce) (turns r k i))

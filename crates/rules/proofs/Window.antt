@@ -53,14 +53,14 @@ kindAt-same w h p p′ x y same = go (inArea (area 33 33 (33 + w) (33 + h)) x y)
 
 -- ---- steps
 -- (x′,y′) is within h of (x,y)
-record Near (h x y x′ y′ : ℕ) : Type 0 where
-  right-of : x′ ≤ x + h
-  left-of : x ≤ x′ + h
-  high : y′ ≤ y + h
-  low : y ≤ y′ + h
+pub record Near (h x y x′ y′ : ℕ) : Type 0 where
+  pub right-of : x′ ≤ x + h
+  pub left-of : x ≤ x′ + h
+  pub high : y′ ≤ y + h
+  pub low : y ≤ y′ + h
 
 -- two steps that cross stay near
-near : (h x y : ℕ) (w e : Way) (i j : ℕ) → vertical w ≡ not (vertical e) → i ≤ h → j ≤ h → Near h x y (backX e j (backX w i x)) (backY e j (backY w i y))
+pub near : (h x y : ℕ) (w e : Way) (i j : ℕ) → vertical w ≡ not (vertical e) → i ≤ h → j ≤ h → Near h x y (backX e j (backX w i x)) (backY e j (backY w i y))
 unfolding backX backY
 near h x y right right i j c a b = absurd (false≢true c)
 near h x y right left i j c a b = absurd (false≢true c)

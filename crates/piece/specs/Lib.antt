@@ -1,0 +1,11 @@
+-- What the contracts of a piece cite: the pieces of a window and which of them wait, the local picture around a block, and the marks near it.
+pub mod Pieces
+pub mod Fill
+pub mod Waits
+pub mod Cut
+pub mod Edge
+pub mod Near
+pub mod Remark
+pub mod Rows
+pub mod Calm
+pub mod Worked

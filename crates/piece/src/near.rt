@@ -1,0 +1,189 @@
+// Marks from the edges of a local picture, each found once: the rules of its pair of types, in the directions that they have.
+use crate::edge::Turn;
+use crate::edge::kind_at;
+use crate::edge::mark_rule;
+use rules::rule::Rule;
+use rules::rule::rule_at;
+ghost use mathlib.Core.Path.{_≡_};
+ghost use Prim.Native.Nat.{ℕ, _+_, _-_, _*_, _≤_, _<_};
+ghost use lib.ListN.{length, getD};
+ghost use Rattle.rules.specs.Words.{ruleAt};
+ghost use Rattle.piece.specs.Edge.{Marked, Local, Steps};
+ghost use Rattle.piece.specs.Near.{Ruled, hitFrom, across, acrossAll, edgesAt, edgesTo, Forward, Still, sweeps};
+
+// Crossed to the right, towards the upper end.
+const RIGHT_UP: Turn = Turn {
+    wp: 1,
+    wm: 0,
+    ep: 82,
+    em: 0,
+};
+
+// Crossed upward, towards the left end.
+const UP_LEFT: Turn = Turn {
+    wp: 82,
+    wm: 0,
+    ep: 0,
+    em: 1,
+};
+
+// Marks what the rule forbids from the edge between `at` and the square before it, crossed in one direction.
+fn mark_from(kinds: &[u8; 6724], marks: &mut [u8; 6724], r: Rule, all: bool, t: Turn, at: usize)
+    requires { ⌜ Local (now kinds) (now marks) × Steps t × (83 ≤ at) × (at < 6724) × (r .ce ≤ 16) ⌝ }
+    ensures { λ _. ⌜ Marked (hitFrom (now (kinds .entry)) all t at r) (now (marks .entry)) (now (marks .exit)) ⌝ }
+{
+    let i = at - t.wm;
+    if i < 83 {
+        return;
+    }
+    if 6641 <= i {
+        return;
+    }
+    mark_rule(kinds, marks, all, t, i, r);
+}
+
+// The same, crossed both ways, and along both ways.
+fn mark_across(kinds: &[u8; 6724], marks: &mut [u8; 6724], r: Rule, t: Turn, at: usize)
+    requires { ⌜ Local (now kinds) (now marks) × Steps t × (83 ≤ at) × (at < 6724) × (r .ce ≤ 16) ⌝ }
+    ensures { λ _. ⌜ Marked (across (now (kinds .entry)) t at r) (now (marks .entry)) (now (marks .exit)) ⌝ }
+{
+    let e = Turn {
+        wp: t.wp,
+        wm: t.wm,
+        ep: t.em,
+        em: t.ep,
+    };
+    let w = Turn {
+        wp: t.wm,
+        wm: t.wp,
+        ep: t.ep,
+        em: t.em,
+    };
+    let b = Turn {
+        wp: t.wm,
+        wm: t.wp,
+        ep: t.em,
+        em: t.ep,
+    };
+    mark_from(kinds, marks, r, true, t, at);
+    mark_from(kinds, marks, r, false, e, at);
+    mark_from(kinds, marks, r, false, w, at);
+    mark_from(kinds, marks, r, false, b, at);
+}
+
+// The same for rule i, past a rule of another pair of types than a and b, which stand at the edge.
+fn mark_nth(
+    kinds: &[u8; 6724],
+    marks: &mut [u8; 6724],
+    rules: &[u16],
+    i: usize,
+    t: Turn,
+    at: usize,
+    a: u16,
+    b: u16,
+)
+    requires { ⌜ Local (now kinds) (now marks) × Forward t × (83 ≤ at) × (at < 6724) ⌝ }
+    requires { ⌜ (8 * i + 8 ≤ length (now rules)) × (ruleAt (now rules) i .ce ≤ 16) ⌝ }
+    requires { ⌜ (a ≡ getD (now kinds) at 0) × (b ≡ getD (now kinds) (at - t .wp) 0) ⌝ }
+    ensures { λ _. ⌜ Marked (across (now (kinds .entry)) t at (ruleAt (now (rules .entry)) i)) (now (marks .entry)) (now (marks .exit)) ⌝ }
+{
+    let first = rules[8 * i];
+    let second = rules[8 * i + 1];
+    let faces = ((first == a) & (second == b)) | ((first == b) & (second == a));
+    if faces {
+        let r = rule_at(rules, i);
+        mark_across(kinds, marks, r, t, at);
+    }
+}
+
+// The same for the used rules.
+fn mark_pair(
+    kinds: &[u8; 6724],
+    marks: &mut [u8; 6724],
+    rules: &[u16],
+    used: usize,
+    t: Turn,
+    at: usize,
+    a: u16,
+    b: u16,
+)
+    requires { ⌜ Local (now kinds) (now marks) × Ruled (now rules) used × Forward t × (83 ≤ at) × (at < 6724) ⌝ }
+    requires { ⌜ (a ≡ getD (now kinds) at 0) × (b ≡ getD (now kinds) (at - t .wp) 0) ⌝ }
+    ensures { λ _. ⌜ Marked (acrossAll (now (kinds .entry)) (now (rules .entry)) used t at) (now (marks .entry)) (now (marks .exit)) ⌝ }
+{
+    let mut i: usize = 0;
+    while i < used {
+        mark_nth(kinds, marks, rules, i, t, at, a, b);
+        i += 1;
+    }
+}
+
+// The same, past a square whose neighbour has its type.
+fn mark_side(
+    kinds: &[u8; 6724],
+    marks: &mut [u8; 6724],
+    rules: &[u16],
+    used: usize,
+    t: Turn,
+    at: usize,
+)
+    requires { ⌜ Local (now kinds) (now marks) × Ruled (now rules) used × Forward t × (83 ≤ at) × (at < 6724) ⌝ }
+    ensures { λ _. ⌜ Marked (acrossAll (now (kinds .entry)) (now (rules .entry)) used t at) (now (marks .entry)) (now (marks .exit)) ⌝ }
+{
+    let a = kind_at(kinds, at);
+    let b = kind_at(kinds, at - t.wp);
+    if a == b {
+        return;
+    }
+    mark_pair(kinds, marks, rules, used, t, at, a, b);
+}
+
+// From the edges left of `at` and below it, past a square of the type of both neighbours.
+fn mark_at(kinds: &[u8; 6724], marks: &mut [u8; 6724], rules: &[u16], used: usize, at: usize)
+    requires { ⌜ Local (now kinds) (now marks) × Ruled (now rules) used × (83 ≤ at) × (at < 6724) ⌝ }
+    ensures { λ _. ⌜ Marked (edgesAt (now (kinds .entry)) (now (rules .entry)) used at) (now (marks .entry)) (now (marks .exit)) ⌝ }
+{
+    let kind = kind_at(kinds, at);
+    let left = kind_at(kinds, at - 1);
+    let below = kind_at(kinds, at - 82);
+    let alike = (left == kind) & (below == kind);
+    if alike {
+        return;
+    }
+    mark_side(kinds, marks, rules, used, RIGHT_UP, at);
+    mark_side(kinds, marks, rules, used, UP_LEFT, at);
+}
+
+// From all edges at the n indexes from `from` on.
+fn mark_range(
+    kinds: &[u8; 6724],
+    marks: &mut [u8; 6724],
+    rules: &[u16],
+    used: usize,
+    from: usize,
+    n: usize,
+)
+    requires { ⌜ Local (now kinds) (now marks) × Ruled (now rules) used × (83 ≤ from) × (from + n < 6724) ⌝ }
+    ensures { λ _. ⌜ Marked (edgesTo (now (kinds .entry)) (now (rules .entry)) used from n) (now (marks .entry)) (now (marks .exit)) ⌝ }
+{
+    let mut k: usize = 0;
+    while k < n {
+        mark_at(kinds, marks, rules, used, from + k);
+        k += 1;
+    }
+}
+
+// Marks what the used rules forbid, all ways, on a picture with no edge outside from .. to.
+pub fn mark_near(
+    kinds: &[u8; 6724],
+    marks: &mut [u8; 6724],
+    rules: &[u16],
+    used: usize,
+    from: usize,
+    to: usize,
+)
+    requires { ⌜ Local (now kinds) (now marks) × Ruled (now rules) used × Still (now kinds) from to ⌝ }
+    ensures { λ _. ⌜ Marked (sweeps (now (kinds .entry)) (now (rules .entry)) used) (now (marks .entry)) (now (marks .exit)) ⌝ }
+{
+    mark_range(kinds, marks, rules, used, from, to - from);
+}
