@@ -9,3 +9,9 @@ pub mod Once
 pub mod Stays
 pub mod Shows
 pub mod Settles
+pub mod OnePiece
+pub mod Turns
+pub mod Checkings
+pub mod CheckStays
+pub mod OnceChecked
+pub mod PacksCheck

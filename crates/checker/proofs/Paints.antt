@@ -55,7 +55,7 @@ paintable-room : {c : ℕ} {ws : List ℕ} {a : Area} → Paintable c ws a → c
 paintable-room P = omega (arith, table-length (P .table))
 
 -- what had room once has it again
-again-fits : {c r s : ℕ} {ws vs zs : List ℕ} {q : Picture} → PaintedTo c ws q vs r → r ≤ c → PaintedTo c ws q zs s → s ≤ c
+pub again-fits : {c r s : ℕ} {ws vs zs : List ℕ} {q : Picture} → PaintedTo c ws q vs r → r ≤ c → PaintedTo c ws q zs s → s ≤ c
 again-fits {c} {r} {s} P u Q = ⊎-elim (λ (o : c < s). absurd (omega (arith, Q .full o, P .number u))) (λ (o : s ≤ c). o) (lt-or-ge c s)
 
 module _ {c r : ℕ} {ws vs : List ℕ} {q : Picture} (e : c ≡ roomIn (length ws)) (P : PaintedTo c ws q vs r) where

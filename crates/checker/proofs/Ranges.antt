@@ -1,5 +1,6 @@
 -- How large the numbers are that the calls return: the number that says no, the place of a rule, the findings of a report, and a tile's number.
 use Prim.Native.Nat.{ℕ, zero, suc, _+_, _-_, _*_, _≤_, _<_}
+use native.Mathlib.Nat.{mul-suc}
 use native.Mathlib.Omega.{arith}
 use mathlib.Core.Bool.{Bool, true, false, cond}
 use mathlib.Core.Path.{_≡_, ap}
@@ -50,26 +51,26 @@ tiles-few ws k a = joined-short (count ws) (λ i. cond (meets (tileOf ws i) k a)
     one true i = omega arith
     one false i = omega arith
 
-bit-few : (b : Bool) → cond b 1 0 ≤ 1
+pub bit-few : (b : Bool) → cond b 1 0 ≤ 1
 bit-few true = omega arith
 bit-few false = omega arith
 
-row-few : (n : ℕ) (f : ℕ → ℕ) → ((i : ℕ) → f i ≤ 1) → sumTo n f ≤ n
+pub row-few : (n : ℕ) (f : ℕ → ℕ) → ((i : ℕ) → f i ≤ 1) → sumTo n f ≤ n
 unfolding sumTo
 row-few zero f h = omega arith
 row-few (suc n) f h = omega (arith, row-few n f h, h n)
 
-rows-few : (n : ℕ) (f : ℕ → ℕ) → ((i : ℕ) → f i ≤ 4096) → sumTo n f ≤ 4096 * n
+pub rows-few : (n k : ℕ) (f : ℕ → ℕ) → ((i : ℕ) → f i ≤ k) → sumTo n f ≤ k * n
 unfolding sumTo
-rows-few zero f h = omega arith
-rows-few (suc n) f h = omega (arith, rows-few n f h, h n)
+rows-few zero k f h = omega arith
+rows-few (suc n) k f h = omega (arith, rows-few n k f h, h n, mul-suc k n)
 
 squares-few : (p : Picture) (k : ℕ) (a : Area) → a .x2 ≤ 4096 → a .y2 ≤ 4096 → squaresIn p k a ≤ 16777216
 unfolding squaresIn
 squares-few p k a u v =
     omega (
       arith,
-      rows-few (a .y2 - a .y1) (λ j. sumTo (a .x2 - a .x1) (λ i. cond (eqb (p (a .x1 + i) (a .y1 + j)) k) 1 0))
+      rows-few (a .y2 - a .y1) 4096 (λ j. sumTo (a .x2 - a .x1) (λ i. cond (eqb (p (a .x1 + i) (a .y1 + j)) k) 1 0))
           (λ j. omega (arith, row-few (a .x2 - a .x1) (λ i. cond (eqb (p (a .x1 + i) (a .y1 + j)) k) 1 0) (λ i. bit-few (eqb (p (a .x1 + i) (a .y1 + j)) k)))),
     )
 
@@ -78,7 +79,7 @@ unfolding settled
 settled-few ws k a = bit-few (eqb (squaresIn (pictureOf ws) 1 (around (width ws) (height ws) k a)) 0)
 
 -- a rule that is the lowest bad one is one of those used
-bad-below : (ws : List ℕ) (used t : ℕ) → (AllSound ws used t → ⊥) → lowestBad ws used t < used
+pub bad-below : (ws : List ℕ) (used t : ℕ) → (AllSound ws used t → ⊥) → lowestBad ws used t < used
 bad-below ws used t f =
     ⊎-elim (λ (u : lowestBad ws used t < used). u) (λ (u : used ≤ lowestBad ws used t). absurd (f (λ i v. lowest ws used t .pass i (omega arith) (omega arith))))
     (lt-or-ge (lowestBad ws used t) used)

@@ -3,6 +3,8 @@ pub mod Layout
 pub mod Ready
 pub mod Create
 pub mod Paint
+pub mod Check
+pub mod CheckSteps
 pub mod Report
 pub mod Answers
 pub mod Steps

@@ -5,6 +5,7 @@ use mathlib.Core.List.{List}
 use Rattle.plane.specs.declared.tile.Area.{Area}
 use Rattle.plane.specs.Point.{Pointed}
 use Rattle.plane.specs.Words.{width, height}
+use Rattle.checker.specs.Check.{Checked}
 use Rattle.checker.specs.Layout.{Layout}
 use Rattle.checker.specs.Report.{Reported}
 
@@ -43,3 +44,22 @@ pub record PointPacked (ws : List ℕ) (x y r : ℕ) : Type 0 where
   pub tile : ℕ
   pub pointed : Pointed ws (width ws) (height ws) x y answer tile
   pub packed : r ≡ packPoint answer tile
+
+-- ---- check: bits 0-7 the number, 8-16 the place, 17-32 the pieces done, 33-49 the pieces left
+abbrev pub packCheck : ℕ → ℕ → ℕ → ℕ → ℕ
+packCheck answer place done left = answer + 2 ^ 8 * place + 2 ^ 17 * done + 2 ^ 33 * left
+
+-- values that check may answer if it is told to do at most 65535 pieces
+pub record NarrowCheck (place done left : ℕ) : Type 0 where
+  pub place-most : place < 512
+  pub done-most : done ≤ 65535
+  pub left-most : left ≤ 65536
+
+-- layout_check: what it returns is check's answer, packed
+pub record CheckPacked (before : Layout) (work rules : List ℕ) (used n r : ℕ) (after : Layout) (work-after : List ℕ) : Type 0 where
+  pub answer : ℕ
+  pub place : ℕ
+  pub done : ℕ
+  pub left : ℕ
+  pub checked : Checked before work rules used n answer place done left after work-after
+  pub packed : r ≡ packCheck answer place done left

@@ -1,4 +1,6 @@
 // The calls as C sees them: numbers and slices of words, and one number returned. Bits 0 to 7 are the paper's number, and the others are laid out as specs/Pack says.
+use crate::check::CheckAnswer;
+use crate::check::check;
 use crate::create::create;
 use crate::painting::paint;
 use crate::report::ReportAnswer;
@@ -12,10 +14,10 @@ use plane::words::wide;
 ghost use mathlib.Core.Path.{_≡_};
 ghost use Rattle.plane.specs.Answers.{pointNumber, pointTile};
 ghost use Rattle.plane.specs.Picture.{area};
-ghost use Rattle.checker.specs.Answers.{reportNumber, reportPlace, reportSettled, reportSquares, reportTiles};
+ghost use Rattle.checker.specs.Answers.{checkNumber, checkPlace, checkDone, checkLeft, reportNumber, reportPlace, reportSettled, reportSquares, reportTiles};
 ghost use Rattle.checker.specs.Create.{Created};
 ghost use Rattle.checker.specs.Layout.{lent};
-ghost use Rattle.checker.specs.Pack.{packReport, packPoint, Narrow, ReportPacked, PointPacked};
+ghost use Rattle.checker.specs.Pack.{packCheck, NarrowCheck, CheckPacked, packReport, packPoint, Narrow, ReportPacked, PointPacked};
 ghost use Rattle.checker.specs.Paint.{Painted};
 
 // A report's answer in one number.
@@ -36,6 +38,20 @@ fn pack_report(r: ReportAnswer) -> u64
         ReportAnswer::BadRule(i) => 4 + 256 * (i as u64),
         ReportAnswer::NoPlace => 6,
         ReportAnswer::Full => 7,
+    }
+}
+
+// Check's answer in one number.
+fn pack_check(r: CheckAnswer) -> u64
+    requires { ⌜ NarrowCheck (checkPlace r) (checkDone r) (checkLeft r) ⌝ }
+    ensures { λ n. ⌜ n ≡ packCheck (checkNumber r) (checkPlace r) (checkDone r) (checkLeft r) ⌝ }
+{
+    match r {
+        CheckAnswer::Done(done, left) => { 131072 * (done as u64) + 8589934592 * (left as u64) }
+        CheckAnswer::Full(done, left) => { 7 + 131072 * (done as u64) + 8589934592 * (left as u64) }
+        CheckAnswer::BadRule(i) => 4 + 256 * (i as u64),
+        CheckAnswer::Lengths => 1,
+        CheckAnswer::NoTable => 3,
     }
 }
 
@@ -79,6 +95,29 @@ pub extern "C" fn layout_paint(
 {
     let a = Area { x1, y1, x2, y2 };
     answer_number(paint(material, errors, waiting, work, a, kind))
+}
+
+#[no_mangle]
+pub extern "C" fn layout_check(
+    material: &[u16],
+    errors: &mut [u16],
+    waiting: &mut [u16],
+    work: &mut [u16],
+    rules: &[u16],
+    used: u16,
+    times: u16,
+) -> u64
+    ensures { λ r. ⌜ CheckPacked (lent (now (material .entry)) (now (errors .entry)) (now (waiting .entry))) (now (work .entry)) (now (rules .entry)) used times r (lent (now (material .exit)) (now (errors .exit)) (now (waiting .exit))) (now (work .exit)) ⌝ }
+{
+    pack_check(check(
+        material,
+        errors,
+        waiting,
+        work,
+        rules,
+        wide(used),
+        wide(times),
+    ))
 }
 
 #[no_mangle]
