@@ -9,6 +9,7 @@ pub mod Once
 pub mod Stays
 pub mod Shows
 pub mod Settles
+pub mod MarkErrors
 pub mod OnePiece
 pub mod Turns
 pub mod Checkings

@@ -3,17 +3,23 @@ use Prim.Native.Nat.{ℕ, suc, _*_, _<_}
 use mathlib.Core.Bool.{Bool, cond}
 use mathlib.Core.Path.{_≡_}
 use mathlib.Core.List.{List}
-use lib.Dec.{eqb}
+use lib.Dec.{eqb, leb}
 use lib.ListN.{length, replicate}
+use Rattle.plane.specs.declared.tile.Area.{Area}
+use Rattle.plane.specs.Area.{squaresIn}
+use Rattle.plane.specs.Picture.{Picture, tiles}
 use Rattle.plane.specs.Refusal.{Lowest}
-use Rattle.plane.specs.Words.{width, height, kinds}
+use Rattle.plane.specs.Words.{width, height, kinds, pictureOf, roomIn, TableLength}
+use Rattle.paint.specs.Paint.{tableLike}
 use Rattle.rules.specs.Vetting.{lowestBad}
 use Rattle.rules.specs.Words.{rulesOf, haloOf}
+use Rattle.piece.specs.Calm.{Calm}
+use Rattle.piece.specs.Remark.{Checkable, remarked}
 use Rattle.checker.specs.declared.check.Ran.{Ran}
 use Rattle.checker.specs.declared.check.Turn.{Turn}
 use Rattle.checker.specs.declared.check.Turn.the-variants as turned
 use Rattle.checker.specs.Check.{Run, stopped, oneMore, checkRun, ranCheck, checkedPiece, pieceFits, checkRefusals, Checked}
-use Rattle.checker.specs.Layout.{Layout}
+use Rattle.checker.specs.Layout.{Layout, Marks}
 use Rattle.checker.specs.Ready.{Fit}
 
 -- a layout and rules that passed their test, and a working room as long
@@ -27,6 +33,28 @@ pub record PieceIn (l : Layout) (work rules : List ℕ) (used bx by : ℕ) : Typ
   pub working : length work ≡ length (l .material)
   pub column : 16 * bx < width (l .material)
   pub row : 16 * by < height (l .material)
+
+-- a calm piece, in an area without errors
+pub record NothingNear (material errors : List ℕ) (k bx by : ℕ) (near : Area) : Type 0 where
+  pub calm : Calm (width material) (height material) (pictureOf material) k bx by
+  pub clear : squaresIn (pictureOf errors) 1 near ≡ 0
+
+-- a piece to check, the errors of its layout and a working room as long
+pub record ErrorsIn (material errors work rules : List ℕ) (used bx by : ℕ) : Type 0 where
+  pub piece : Checkable material rules used (haloOf rules used) bx by
+  pub room : TableLength (length material)
+  pub marks : Marks material errors
+  pub long : length errors ≡ length material
+  pub working : length work ≡ length material
+
+-- the errors after the piece, as pieceErrors
+abbrev pub errorsAfter : List ℕ → List ℕ → List ℕ → ℕ → ℕ → ℕ → Picture
+errorsAfter material errors rules used bx by = remarked (width material) (height material) (pictureOf material) (rulesOf rules used) (haloOf rules used) bx by (pictureOf errors)
+
+-- a piece's errors: have they room, and their table afterwards
+pub record ErrorsMarked (material errors rules : List ℕ) (used bx by : ℕ) (r : Bool) (after : List ℕ) : Type 0 where
+  pub fits : r ≡ leb (length (tiles (width errors) (height errors) (errorsAfter material errors rules used bx by))) (roomIn (length material))
+  pub leaves : after ≡ cond r (tableLike errors (errorsAfter material errors rules used bx by)) errors
 
 -- a piece: has it room, and the layout afterwards
 pub record PieceTried (l : Layout) (rules : List ℕ) (used bx by : ℕ) (r : Bool) (after : Layout) : Type 0 where

@@ -5,18 +5,27 @@ use paint::table::clear;
 use paint::table::paint_into;
 use paint::table::stamp_into;
 use paint::table::take_over;
+use piece::calm::calm;
 use piece::rows::near_area;
 use piece::rows::piece_rows;
 use piece::waits::Block;
 use piece::waits::lowest_waiting;
 use piece::waits::waiting_pieces;
+use plane::area::count_squares;
+use plane::tile::Area;
 use plane::words::room_in;
 use rules::list::halo_of;
+ghost use mathlib.Core.Bool.{true};
+ghost use mathlib.Core.Path.{_≡_};
+ghost use Prim.Native.Nat.{ℕ, _*_, _≤_, _<_};
+ghost use Rattle.plane.specs.Area.{AreaIn};
+ghost use Rattle.plane.specs.Plane.{Plane};
+ghost use Rattle.plane.specs.Words.{width, height};
 ghost use Rattle.checker.specs.Answers.{readyNumber, readyPlace};
 ghost use Rattle.checker.specs.Layout.{lent};
 ghost use Rattle.checker.specs.Check.{Checked};
 ghost use Rattle.checker.specs.Answers.{checkNumber, checkPlace, checkDone, checkLeft};
-ghost use Rattle.checker.specs.CheckSteps.{Runs, PieceIn, PieceTried, Turned, RanTo, RanPieces, CheckTested, CheckedBut};
+ghost use Rattle.checker.specs.CheckSteps.{Runs, NothingNear, ErrorsIn, ErrorsMarked, PieceIn, PieceTried, Turned, RanTo, RanPieces, CheckTested, CheckedBut};
 
 // The answer of check: the pieces done and left, also where a piece found no room (Full); or what the tests refuse.
 pub enum CheckAnswer {
@@ -40,6 +49,46 @@ pub struct Ran {
     pub full: bool,
 }
 
+// Is everything near the piece of one type, and no error recorded within k of its block? near is that area.
+fn nothing_near(material: &[u16], errors: &[u16], bx: u16, by: u16, k: u16, near: Area) -> bool
+    requires { ⌜ Plane (now material) × (16 * bx < width (now material)) × (16 * by < height (now material)) × (k ≤ 16) ⌝ }
+    requires { ⌜ Plane (now errors) × AreaIn (width (now errors)) (height (now errors)) near ⌝ }
+    ensures { λ r. ⌜ (r ≡ true → NothingNear (now (material .entry)) (now (errors .entry)) k bx by near) ⌝ }
+{
+    if calm(material, bx, by, k) {
+        return count_squares(errors, 1, near) == 0;
+    }
+    false
+}
+
+// Marks the errors within the halo of the block; false, with errors as they were, where they have no room. A calm piece costs two looks.
+fn mark_errors(
+    material: &[u16],
+    errors: &mut [u16],
+    work: &mut [u16],
+    rules: &[u16],
+    used: usize,
+    bx: u16,
+    by: u16,
+) -> bool
+    requires { ⌜ ErrorsIn (now material) (now errors) (now work) (now rules) used bx by ⌝ }
+    ensures { λ r. ⌜ ErrorsMarked (now (material .entry)) (now (errors .entry)) (now (rules .entry)) used bx by r (now (errors .exit)) ⌝ }
+{
+    let k = halo_of(rules, used);
+    let near = near_area(material[1], material[2], bx, by, k);
+    if nothing_near(material, errors, bx, by, k, near) {
+        return true;
+    }
+    let room = room_in(material.len());
+    let rows = piece_rows(material, rules, used, bx, by, k);
+    let marked = stamp_into(errors, near, rows, work, room);
+    if room < marked {
+        return false;
+    }
+    take_over(errors, work, marked, room);
+    true
+}
+
 // Checks the piece at column bx, row by; false, with errors and waiting as they were, where one of them has no room for it.
 pub fn check_piece(
     material: &[u16],
@@ -54,20 +103,15 @@ pub fn check_piece(
     requires { ⌜ PieceIn (lent (now material) (now errors) (now waiting)) (now work) (now rules) used bx by ⌝ }
     ensures { λ r. ⌜ PieceTried (lent (now (material .entry)) (now (errors .entry)) (now (waiting .entry))) (now (rules .entry)) used bx by r (lent (now (material .exit)) (now (errors .exit)) (now (waiting .exit))) ⌝ }
 {
-    let k = halo_of(rules, used);
     let room = room_in(material.len());
     let block = near_area(material[1], material[2], bx, by, 0);
     let drafted = paint_into(waiting, block, 0, work, room);
     if room < drafted {
         return false;
     }
-    let rows = piece_rows(material, rules, used, bx, by, k);
-    let near = near_area(material[1], material[2], bx, by, k);
-    let marked = stamp_into(errors, near, rows, work, room);
-    if room < marked {
+    if !mark_errors(material, errors, work, rules, used, bx, by) {
         return false;
     }
-    take_over(errors, work, marked, room);
     let cleared = paint_into(waiting, block, 0, work, room);
     take_over(waiting, work, cleared, room);
     true

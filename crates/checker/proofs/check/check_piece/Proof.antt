@@ -1,28 +1,25 @@
--- What each step is handed follows from the piece to check; the ways out, no room for waiting or for errors and both taken over, are one law each.
-use Rattle.checker.proofs.OnePiece.{piece-words, piece-listed, piece-checkable, piece-block, piece-near, waiting-paintable, waiting-kinds, errors-paintable, errors-small, as-waiting, as-errors, piece-unwaited, piece-unmarked, piece-checked}
-use mathlib.Core.Path.{sym, _∙_}
+-- What each step is handed follows from the piece to check; the ways out, no room for waiting or for errors and both done, are one law each.
 use native.Mathlib.Omega.{arith}
+use mathlib.Core.Path.{sym, _∙_}
+use Rattle.checker.proofs.OnePiece.{piece-words, piece-block, waiting-paintable, waiting-kinds, piece-errors, as-waiting, piece-unwaited, piece-unmarked, piece-checked}
 use borrow.Author.Needs.{needs}
 use Rattle.checker.proofs.check.check_piece.Statement.{statement}
 use Rattle.checker.proofs.check.check_piece.Tie as tie
-
-halo-of-requires : tie.Need-halo-of-requires
-halo-of-requires c κs = piece-listed (c .before .before .before .before .before .pre)
 
 room-in-requires : tie.Need-room-in-requires
 room-in-requires c κs = search needs
 
 shared-slice-read-near-area : tie.Need-shared-slice-read-near-area
-shared-slice-read-near-area c = omega (arith, piece-words (c .before .before .before .before .before .before .before .before .pre))
+shared-slice-read-near-area c = omega (arith, piece-words (c .before .before .before .before .before .before .before .pre))
 
 shared-slice-read-near-area-2 : tie.Need-shared-slice-read-near-area-2
-shared-slice-read-near-area-2 c = omega (arith, piece-words (c .before .before .before .before .before .before .before .before .before .pre))
+shared-slice-read-near-area-2 c = omega (arith, piece-words (c .before .before .before .before .before .before .before .before .pre))
 
 near-area-requires : tie.Need-near-area-requires
-near-area-requires c κs = (piece-block (c .before .before .before .before .before .before .before .before .before .pre), omega arith)
+near-area-requires c κs = (piece-block (c .before .before .before .before .before .before .before .before .pre), omega arith)
 
 paint-into-requires : tie.Need-paint-into-requires
-paint-into-requires c κs = (waiting-paintable (c .before .before .before .before .before .before .before .before .before .before .before .before .pre) (c .before .before .before .before .before .room-in .ensures) (c .before .before .near-area .ensures), (omega (arith, waiting-kinds (c .before .before .before .before .before .before .before .before .before .before .before .before .pre)), c .before .before .before .before .before .before .before .before .before .before .before .before .pre .working ∙ sym (c .before .before .before .before .before .before .before .before .before .before .before .before .pre .fit .lengths .tables .waiting)))
+paint-into-requires c κs = (waiting-paintable (c .before .before .before .before .before .before .before .before .before .before .before .pre) (c .before .before .before .before .before .room-in .ensures) (c .before .before .near-area .ensures), (omega (arith, waiting-kinds (c .before .before .before .before .before .before .before .before .before .before .before .pre)), c .before .before .before .before .before .before .before .before .before .before .before .pre .working ∙ sym (c .before .before .before .before .before .before .before .before .before .before .before .pre .fit .lengths .tables .waiting)))
 
 same-length : tie.Need-same-length
 same-length c = search needs
@@ -31,22 +28,10 @@ same-length-2 : tie.Need-same-length-2
 same-length-2 c = search needs
 
 returns : tie.Need-returns
-returns c = piece-unwaited (c .before .before .before .before .before .before .before .before .before .before .before .before .before .before .before .before .pre) (c .before .before .before .before .before .before .before .before .before .room-in .ensures) (as-waiting (c .before .before .before .before .before .before .before .before .before .before .before .before .before .before .before .before .pre) (c .before .before .before .before .before .before .near-area .ensures) (c .before .before .before .paint-into .ensures)) (c .if1 .taken)
+returns c = piece-unwaited (c .before .before .before .before .before .before .before .before .before .before .before .before .before .before .before .pre) (c .before .before .before .before .before .before .before .before .before .room-in .ensures) (as-waiting (c .before .before .before .before .before .before .before .before .before .before .before .before .before .before .before .pre) (c .before .before .before .before .before .before .near-area .ensures) (c .before .before .before .paint-into .ensures)) (c .if1 .taken)
 
-piece-rows-requires : tie.Need-piece-rows-requires
-piece-rows-requires c κs = piece-checkable (c .before .before .before .before .before .before .before .before .before .before .before .before .before .before .before .before .pre) (c .before .before .before .before .before .before .before .before .before .before .halo-of .ensures)
-
-shared-slice-read-near-area-3 : tie.Need-shared-slice-read-near-area-3
-shared-slice-read-near-area-3 c = omega (arith, piece-words (c .before .before .before .before .before .before .before .before .before .before .before .before .before .before .before .before .before .before .pre))
-
-shared-slice-read-near-area-4 : tie.Need-shared-slice-read-near-area-4
-shared-slice-read-near-area-4 c = omega (arith, piece-words (c .before .before .before .before .before .before .before .before .before .before .before .before .before .before .before .before .before .before .before .pre))
-
-near-area-requires-2 : tie.Need-near-area-requires-2
-near-area-requires-2 c κs = (piece-block (c .before .before .before .before .before .before .before .before .before .before .before .before .before .before .before .before .before .before .before .pre), omega (arith, piece-near (c .before .before .before .before .before .before .before .before .before .before .before .before .before .before .before .before .before .before .before .pre) (c .before .before .before .before .before .before .before .before .before .before .before .before .before .halo-of .ensures)))
-
-stamp-into-requires : tie.Need-stamp-into-requires
-stamp-into-requires c κs = (errors-paintable (c .before .before .before .before .before .before .before .before .before .before .before .before .before .before .before .before .before .before .before .before .before .before .pre) (c .before .before .before .before .before .before .before .before .before .before .before .before .before .before .before .room-in .ensures) (c .before .before .before .before .before .before .before .before .before .before .before .before .before .before .before .before .halo-of .ensures) (c .before .before .near-area2 .ensures), (errors-small (c .before .before .before .before .before .before .before .before .before .before .before .before .before .before .before .before .before .before .before .before .before .before .pre) (c .before .before .before .before .before .before .before .before .before .before .before .before .before .before .before .before .halo-of .ensures) (c .before .before .near-area2 .ensures), c .before .before .before .before .before .before .before .before .before .paint-into .kept .1 .1 .1 .0 ∙ (c .before .before .before .before .before .before .before .before .before .before .before .before .before .before .before .before .before .before .before .before .before .before .pre .working ∙ sym (c .before .before .before .before .before .before .before .before .before .before .before .before .before .before .before .before .before .before .before .before .before .before .pre .fit .lengths .tables .errors))))
+mark-errors-requires : tie.Need-mark-errors-requires
+mark-errors-requires c κs = piece-errors (c .before .before .before .before .before .before .before .before .before .before .before .before .before .before .before .before .before .pre) (c .before .before .before .before .before .paint-into .kept .1 .1 .1 .0)
 
 same-length-3 : tie.Need-same-length-3
 same-length-3 c = search needs
@@ -58,16 +43,13 @@ same-length-5 : tie.Need-same-length-5
 same-length-5 c = search needs
 
 returns-2 : tie.Need-returns-2
-returns-2 c = piece-unmarked (c .before .before .before .before .before .before .before .before .before .before .before .before .before .before .before .before .before .before .before .before .before .before .before .before .before .before .pre) (c .before .before .before .before .before .before .before .before .before .before .before .before .before .before .before .before .before .before .before .room-in .ensures) (as-errors (c .before .before .before .before .before .before .before .before .before .before .before .before .before .before .before .before .before .before .before .before .before .before .before .before .before .before .pre) (c .before .before .before .before .before .before .before .before .before .before .before .before .before .before .before .before .before .before .before .before .halo-of .ensures) (c .before .before .before .before .before .before .near-area2 .ensures) (c .before .before .before .before .before .before .before .before .before .piece-rows .ensures) (c .before .before .before .stamp-into .ensures)) (c .if2 .taken)
-
-take-over-requires : tie.Need-take-over-requires
-take-over-requires c κs = c .before .before .before .before .before .stamp-into .kept .1 .1 .1 .0 ∙ (c .before .before .before .before .before .before .before .before .before .before .before .before .before .before .before .paint-into .kept .1 .1 .1 .0 ∙ (c .before .before .before .before .before .before .before .before .before .before .before .before .before .before .before .before .before .before .before .before .before .before .before .before .before .before .before .before .pre .working ∙ sym (c .before .before .before .before .before .before .before .before .before .before .before .before .before .before .before .before .before .before .before .before .before .before .before .before .before .before .before .before .pre .fit .lengths .tables .errors)))
+returns-2 c = piece-unmarked (c .before .before .before .before .before .before .before .before .before .before .before .before .before .before .before .before .before .before .before .before .before .before .before .pre) (c .before .before .before .before .before .mark-errors .ensures) (c .if2 .taken)
 
 paint-into-requires-2 : tie.Need-paint-into-requires-2
-paint-into-requires-2 c κs = (waiting-paintable (c .before .before .before .before .before .before .before .before .before .before .before .before .before .before .before .before .before .before .before .before .before .before .before .before .before .before .before .before .before .before .before .before .before .before .before .pre) (c .before .before .before .before .before .before .before .before .before .before .before .before .before .before .before .before .before .before .before .before .before .before .before .before .before .before .before .before .room-in .ensures) (c .before .before .before .before .before .before .before .before .before .before .before .before .before .before .before .before .before .before .before .before .before .before .before .before .before .near-area .ensures), (omega (arith, waiting-kinds (c .before .before .before .before .before .before .before .before .before .before .before .before .before .before .before .before .before .before .before .before .before .before .before .before .before .before .before .before .before .before .before .before .before .before .before .pre)), c .before .before .before .before .before .before .take-over .kept .1 .0 ∙ (c .before .before .before .before .before .before .before .before .before .before .before .before .stamp-into .kept .1 .1 .1 .0 ∙ (c .before .before .before .before .before .before .before .before .before .before .before .before .before .before .before .before .before .before .before .before .before .before .paint-into .kept .1 .1 .1 .0 ∙ (c .before .before .before .before .before .before .before .before .before .before .before .before .before .before .before .before .before .before .before .before .before .before .before .before .before .before .before .before .before .before .before .before .before .before .before .pre .working ∙ sym (c .before .before .before .before .before .before .before .before .before .before .before .before .before .before .before .before .before .before .before .before .before .before .before .before .before .before .before .before .before .before .before .before .before .before .before .pre .fit .lengths .tables .waiting))))))
+paint-into-requires-2 c κs = (waiting-paintable (c .before .before .before .before .before .before .before .before .before .before .before .before .before .before .before .before .before .before .before .before .before .before .before .before .before .pre) (c .before .before .before .before .before .before .before .before .before .before .before .before .before .before .before .before .before .before .before .room-in .ensures) (c .before .before .before .before .before .before .before .before .before .before .before .before .before .before .before .before .near-area .ensures), (omega (arith, waiting-kinds (c .before .before .before .before .before .before .before .before .before .before .before .before .before .before .before .before .before .before .before .before .before .before .before .before .before .pre)), c .before .before .before .before .before .before .before .mark-errors .kept .1 .1 .0 ∙ (c .before .before .before .before .before .before .before .before .before .before .before .before .before .paint-into .kept .1 .1 .1 .0 ∙ (c .before .before .before .before .before .before .before .before .before .before .before .before .before .before .before .before .before .before .before .before .before .before .before .before .before .pre .working ∙ sym (c .before .before .before .before .before .before .before .before .before .before .before .before .before .before .before .before .before .before .before .before .before .before .before .before .before .pre .fit .lengths .tables .waiting)))))
 
-take-over-requires-2 : tie.Need-take-over-requires-2
-take-over-requires-2 c κs = c .before .before .before .before .paint-into2 .kept .1 .1 .1 .0 ∙ (c .before .before .before .before .before .before .before .before .before .before .before .take-over .kept .1 .0 ∙ (c .before .before .before .before .before .before .before .before .before .before .before .before .before .before .before .before .before .stamp-into .kept .1 .1 .1 .0 ∙ (c .before .before .before .before .before .before .before .before .before .before .before .before .before .before .before .before .before .before .before .before .before .before .before .before .before .before .before .paint-into .kept .1 .1 .1 .0 ∙ (c .before .before .before .before .before .before .before .before .before .before .before .before .before .before .before .before .before .before .before .before .before .before .before .before .before .before .before .before .before .before .before .before .before .before .before .before .before .before .before .before .pre .working ∙ sym (c .before .before .before .before .before .before .before .before .before .before .before .before .before .before .before .before .before .before .before .before .before .before .before .before .before .before .before .before .before .before .before .before .before .before .before .before .before .before .before .before .pre .fit .lengths .tables .waiting)))))
+take-over-requires : tie.Need-take-over-requires
+take-over-requires c κs = c .before .before .before .before .paint-into2 .kept .1 .1 .1 .0 ∙ (c .before .before .before .before .before .before .before .before .before .before .before .before .mark-errors .kept .1 .1 .0 ∙ (c .before .before .before .before .before .before .before .before .before .before .before .before .before .before .before .before .before .before .paint-into .kept .1 .1 .1 .0 ∙ (c .before .before .before .before .before .before .before .before .before .before .before .before .before .before .before .before .before .before .before .before .before .before .before .before .before .before .before .before .before .before .pre .working ∙ sym (c .before .before .before .before .before .before .before .before .before .before .before .before .before .before .before .before .before .before .before .before .before .before .before .before .before .before .before .before .before .before .pre .fit .lengths .tables .waiting))))
 
 same-length-6 : tie.Need-same-length-6
 same-length-6 c = search needs
@@ -76,16 +58,15 @@ same-length-7 : tie.Need-same-length-7
 same-length-7 c = search needs
 
 same-length-8 : tie.Need-same-length-8
-same-length-8 c = c .before .before .before .before .take-over2 .kept .1 .0 ∙ (c .before .before .before .before .before .before .before .before .before .paint-into2 .kept .1 .1 .1 .0 ∙ (c .before .before .before .before .before .before .before .before .before .before .before .before .before .before .before .before .take-over .kept .1 .0 ∙ (c .before .before .before .before .before .before .before .before .before .before .before .before .before .before .before .before .before .before .before .before .before .before .stamp-into .kept .1 .1 .1 .0 ∙ c .before .before .before .before .before .before .before .before .before .before .before .before .before .before .before .before .before .before .before .before .before .before .before .before .before .before .before .before .before .before .before .before .paint-into .kept .1 .1 .1 .0)))
+same-length-8 c = search needs
 
 returns-3 : tie.Need-returns-3
-returns-3 c = piece-checked (c .before .before .before .before .before .before .before .before .before .before .before .before .before .before .before .before .before .before .before .before .before .before .before .before .before .before .before .before .before .before .before .before .before .before .before .before .before .before .before .before .before .before .before .before .before .pre) (c .before .before .before .before .before .before .before .before .before .before .before .before .before .before .before .before .before .before .before .before .before .before .before .before .before .before .before .before .before .before .before .before .before .before .before .before .before .before .room-in .ensures) (as-errors (c .before .before .before .before .before .before .before .before .before .before .before .before .before .before .before .before .before .before .before .before .before .before .before .before .before .before .before .before .before .before .before .before .before .before .before .before .before .before .before .before .before .before .before .before .before .pre) (c .before .before .before .before .before .before .before .before .before .before .before .before .before .before .before .before .before .before .before .before .before .before .before .before .before .before .before .before .before .before .before .before .before .before .before .before .before .before .before .halo-of .ensures) (c .before .before .before .before .before .before .before .before .before .before .before .before .before .before .before .before .before .before .before .before .before .before .before .before .before .near-area2 .ensures) (c .before .before .before .before .before .before .before .before .before .before .before .before .before .before .before .before .before .before .before .before .before .before .before .before .before .before .before .before .piece-rows .ensures) (c .before .before .before .before .before .before .before .before .before .before .before .before .before .before .before .before .before .before .before .before .before .before .stamp-into .ensures)) (c .before .before .before .before .before .before .before .before .before .before .before .before .before .before .before .before .before .before .before .if2 .left) (c .before .before .before .before .before .before .before .before .before .before .before .before .before .before .before .before .take-over .ensures .0) (as-waiting (c .before .before .before .before .before .before .before .before .before .before .before .before .before .before .before .before .before .before .before .before .before .before .before .before .before .before .before .before .before .before .before .before .before .before .before .before .before .before .before .before .before .before .before .before .before .pre) (c .before .before .before .before .before .before .before .before .before .before .before .before .before .before .before .before .before .before .before .before .before .before .before .before .before .before .before .before .before .before .before .before .before .before .before .near-area .ensures) (c .before .before .before .before .before .before .before .before .before .before .before .before .before .before .before .before .before .before .before .before .before .before .before .before .before .before .before .before .before .before .before .before .paint-into .ensures)) (c .before .before .before .before .before .before .before .before .before .before .before .before .before .before .before .before .before .before .before .before .before .before .before .before .before .before .before .before .before .if1 .left) (as-waiting (c .before .before .before .before .before .before .before .before .before .before .before .before .before .before .before .before .before .before .before .before .before .before .before .before .before .before .before .before .before .before .before .before .before .before .before .before .before .before .before .before .before .before .before .before .before .pre) (c .before .before .before .before .before .before .before .before .before .before .before .before .before .before .before .before .before .before .before .before .before .before .before .before .before .before .before .before .before .before .before .before .before .before .before .near-area .ensures) (c .before .before .before .before .before .before .before .before .before .paint-into2 .ensures)) (c .before .before .before .before .take-over2 .ensures .0)
+returns-3 c = piece-checked (c .before .before .before .before .before .before .before .before .before .before .before .before .before .before .before .before .before .before .before .before .before .before .before .before .before .before .before .before .before .before .before .before .before .before .before .pre) (c .before .before .before .before .before .before .before .before .before .before .before .before .before .before .before .before .before .before .before .before .before .before .before .before .before .before .before .before .before .room-in .ensures) (c .before .before .before .before .before .before .before .before .before .before .before .before .before .before .before .before .before .mark-errors .ensures) (c .before .before .before .before .before .before .before .before .before .before .before .before .if2 .left) (as-waiting (c .before .before .before .before .before .before .before .before .before .before .before .before .before .before .before .before .before .before .before .before .before .before .before .before .before .before .before .before .before .before .before .before .before .before .before .pre) (c .before .before .before .before .before .before .before .before .before .before .before .before .before .before .before .before .before .before .before .before .before .before .before .before .before .before .near-area .ensures) (c .before .before .before .before .before .before .before .before .before .before .before .before .before .before .before .before .before .before .before .before .before .before .before .paint-into .ensures)) (c .before .before .before .before .before .before .before .before .before .before .before .before .before .before .before .before .before .before .before .before .if1 .left) (as-waiting (c .before .before .before .before .before .before .before .before .before .before .before .before .before .before .before .before .before .before .before .before .before .before .before .before .before .before .before .before .before .before .before .before .before .before .before .pre) (c .before .before .before .before .before .before .before .before .before .before .before .before .before .before .before .before .before .before .before .before .before .before .before .before .before .before .near-area .ensures) (c .before .before .before .before .before .before .before .before .before .paint-into2 .ensures)) (c .before .before .before .before .take-over .ensures .0)
 
 pub check-piece-spec : {M : Type 1} → statement M
 check-piece-spec =
     tie.close
     (tie.spec
-    halo-of-requires
     room-in-requires
     shared-slice-read-near-area
     shared-slice-read-near-area-2
@@ -94,18 +75,13 @@ check-piece-spec =
     same-length
     same-length-2
     returns
-    piece-rows-requires
-    shared-slice-read-near-area-3
-    shared-slice-read-near-area-4
-    near-area-requires-2
-    stamp-into-requires
+    mark-errors-requires
     same-length-3
     same-length-4
     same-length-5
     returns-2
-    take-over-requires
     paint-into-requires-2
-    take-over-requires-2
+    take-over-requires
     same-length-6
     same-length-7
     same-length-8
