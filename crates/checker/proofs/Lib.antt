@@ -14,5 +14,4 @@ pub mod OnePiece
 pub mod Turns
 pub mod Checkings
 pub mod CheckStays
-pub mod OnceChecked
 pub mod PacksCheck

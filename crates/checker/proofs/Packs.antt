@@ -1,17 +1,21 @@
 -- The number that C is given holds the answer: each value is within the range of its bits, so it is found again there, and all other bits are 0.
 use Prim.Native.Nat.{ℕ, _^_, _<_}
 use native.Mathlib.Omega.{arith}
+use mathlib.Core.Bool.{Bool}
 use mathlib.Core.Path.{_≡_, subst₂, subst₃}
 use mathlib.Core.List.{List}
+use lib.ListN.{length}
 use Rattle.plane.specs.declared.tile.Area.{Area}
 use Rattle.plane.specs.Point.{pointRefusals, Pointed}
 use Rattle.plane.specs.Words.{width, height}
+use Rattle.rules.specs.declared.rule.Rule.{Rule}
+use Rattle.rules.specs.Expansion.{macroRefusals, Expanded}
 use Rattle.checker.specs.Create.{createRefusals, Created}
 use Rattle.checker.specs.Layout.{Layout}
-use Rattle.checker.specs.Pack.{bits, packReport, Narrow, ReportPacked, PointPacked}
+use Rattle.checker.specs.Pack.{bits, packReport, Narrow, ReportPacked, PointPacked, MacroPacked}
 use Rattle.checker.specs.Paint.{paintRefusals, Painted}
 use Rattle.checker.specs.Report.{settled, Findings, reportRefusals, Reported}
-use Rattle.checker.proofs.Ranges.{lowest-within, report-narrow, point-few}
+use Rattle.checker.proofs.Ranges.{lowest-within, report-narrow, point-few, macro-few}
 
 -- ---- create and paint: the number is all that they return
 pub create-number : {before after : Layout} {w h t r : ℕ} → Created before w h t r after → (bits 0 7 r ≡ r) × (r < 2 ^ 8)
@@ -53,3 +57,12 @@ point-unpacks {ws} {x} {y} {r} P =
     let v = point-few (P .answer) (P .tile) (P .pointed) in
     let e = P .packed in
     (subst₂ (λ (n i : ℕ). Pointed ws (width ws) (height ws) x y n i) (omega arith) (omega arith) (P .pointed), omega arith, omega arith)
+
+-- ---- the macros; width and spacing are `Expanded` with their rules
+pub macro-unpacks : {ws after : List ℕ} {used t : ℕ} {ok : Bool} {rs : List Rule} {r : ℕ} → MacroPacked (λ n k. Expanded ws used t ok rs n k after) r
+    → Expanded ws used t ok rs (bits 0 7 r) (bits 17 26 r) after × (r < 2 ^ 27) × (bits 8 16 r ≡ 0)
+macro-unpacks {ws} {after} {used} {t} {ok} {rs} {r} P =
+    let u : P .answer < 8 = lowest-within 8 (macroRefusals (length ws) used t ok (length rs)) (omega arith) (omega arith, (omega arith, (omega arith, (omega arith, tt)))) (P .made .outcome .number) in
+    let v = macro-few (P .answer) (P .used) (P .made) in
+    let e = P .packed in
+    (subst₂ (λ (n k : ℕ). Expanded ws used t ok rs n k after) (omega arith) (omega arith) (P .made), omega arith, omega arith)

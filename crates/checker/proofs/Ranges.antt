@@ -1,4 +1,4 @@
--- How large the numbers are that the calls return: the number that says no, the place of a rule, the findings of a report, and a tile's number.
+-- How large the numbers are that the calls return: the number that says no, the place of a rule, the findings of a report, a tile's number, and a count of rules.
 use Prim.Native.Nat.{ℕ, zero, suc, _+_, _-_, _*_, _≤_, _<_}
 use native.Mathlib.Nat.{mul-suc}
 use native.Mathlib.Omega.{arith}
@@ -19,6 +19,8 @@ use Rattle.plane.proofs.Basics.{lt-or-ge}
 use Rattle.plane.proofs.FromTable.{table-plane}
 use Rattle.plane.proofs.Lowests.{all-hold}
 use Rattle.plane.proofs.ToTable.{named}
+use Rattle.rules.specs.declared.rule.Rule.{Rule}
+use Rattle.rules.specs.Expansion.{RuleList, refused, appended, macroRefusals, Expanded}
 use Rattle.rules.specs.Vetting.{AllSound, lowestBad}
 use Rattle.rules.specs.Words.{haloOf}
 use Rattle.rules.proofs.Vetted.{lowest}
@@ -127,3 +129,10 @@ point-few {ws} {x} {y} zero tile P =
     let e = named ws Q (c .0) x y (record { counted = c .1; held = c .2 }) in
     omega (arith, P .outcome .leaves, e, c .1, T .room, g .0 .most)
 point-few (suc n) tile P = omega (arith, P .outcome .leaves)
+
+-- ---- macros
+pub macro-few : {ws after : List ℕ} {used t : ℕ} {ok : Bool} {rs : List Rule} (answer n : ℕ) → Expanded ws used t ok rs answer n after → n ≤ 512
+macro-few {ws} {after} {used} {t} {ok} {rs} zero n E =
+    let g = all-hold 0 (macroRefusals (length ws) used t ok (length rs)) (omega arith, (omega arith, (omega arith, (omega arith, tt)))) (E .outcome .number) in
+    omega (arith, ap (λ (l : RuleList). l .used) (E .outcome .leaves), g .0 .most, g .1 .1 .1 .0)
+macro-few (suc m) n E = omega (arith, ap (λ (l : RuleList). l .used) (E .outcome .leaves))

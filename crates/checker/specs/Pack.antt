@@ -45,6 +45,17 @@ pub record PointPacked (ws : List ℕ) (x y r : ℕ) : Type 0 where
   pub pointed : Pointed ws (width ws) (height ws) x y answer tile
   pub packed : r ≡ packPoint answer tile
 
+-- ---- macros: bits 0-7 the number, 17-26 the new count of used rules
+abbrev pub packMacro : ℕ → ℕ → ℕ
+packMacro answer used = answer + 2 ^ 17 * used
+
+-- layout_width and layout_spacing: what they return is the macro's answer, packed; `Made` is the macro's statement of its number and count
+pub record MacroPacked (Made : ℕ → ℕ → Type 0) (r : ℕ) : Type 0 where
+  pub answer : ℕ
+  pub used : ℕ
+  pub made : Made answer used
+  pub packed : r ≡ packMacro answer used
+
 -- ---- check: bits 0-7 the number, 8-16 the place, 17-32 the pieces done, 33-49 the pieces left
 abbrev pub packCheck : ℕ → ℕ → ℕ → ℕ → ℕ
 packCheck answer place done left = answer + 2 ^ 8 * place + 2 ^ 17 * done + 2 ^ 33 * left

@@ -11,13 +11,19 @@ use plane::answer::refusal_number;
 use plane::handle::point;
 use plane::tile::Area;
 use plane::words::wide;
+use rules::macros::MacroAnswer;
+use rules::macros::spacing;
+use rules::macros::width;
 ghost use mathlib.Core.Path.{_≡_};
+ghost use Prim.Native.Nat.{_≤_};
 ghost use Rattle.plane.specs.Answers.{pointNumber, pointTile};
 ghost use Rattle.plane.specs.Picture.{area};
+ghost use Rattle.rules.specs.Answers.{macroNumber, macroUsed};
+ghost use Rattle.rules.specs.Expansion.{Widened, Spaced};
 ghost use Rattle.checker.specs.Answers.{checkNumber, checkPlace, checkDone, checkLeft, reportNumber, reportPlace, reportSettled, reportSquares, reportTiles};
 ghost use Rattle.checker.specs.Create.{Created};
 ghost use Rattle.checker.specs.Layout.{lent};
-ghost use Rattle.checker.specs.Pack.{packCheck, NarrowCheck, CheckPacked, packReport, packPoint, Narrow, ReportPacked, PointPacked};
+ghost use Rattle.checker.specs.Pack.{packCheck, NarrowCheck, CheckPacked, packReport, packPoint, packMacro, Narrow, ReportPacked, PointPacked, MacroPacked};
 ghost use Rattle.checker.specs.Paint.{Painted};
 
 // A report's answer in one number.
@@ -62,6 +68,17 @@ fn pack_point(r: Point) -> u64
     match r {
         Point::At(i) => 131072 * (i as u64),
         Point::No(why) => refusal_number(why),
+    }
+}
+
+// A macro's answer in one number.
+fn pack_macro(r: MacroAnswer) -> u64
+    requires { ⌜ macroUsed r ≤ 512 ⌝ }
+    ensures { λ n. ⌜ n ≡ packMacro (macroNumber r) (macroUsed r) ⌝ }
+{
+    match r {
+        MacroAnswer::Used(used) => 131072 * (used as u64),
+        MacroAnswer::No(why) => refusal_number(why),
     }
 }
 
@@ -144,4 +161,34 @@ pub extern "C" fn layout_point(table: &[u16], x: u16, y: u16) -> u64
     ensures { λ r. ⌜ PointPacked (now (table .entry)) x y r ⌝ }
 {
     pack_point(point(table, x, y))
+}
+
+#[no_mangle]
+pub extern "C" fn layout_width(
+    rules: &mut [u16],
+    used: u16,
+    t: u16,
+    set: u16,
+    d: u16,
+    reason: u16,
+) -> u64
+    ensures { λ r. ⌜ MacroPacked (λ n k. Widened (now (rules .entry)) used t set d reason n k (now (rules .exit))) r ⌝ }
+{
+    pack_macro(width(rules, wide(used), t, set, d, reason))
+}
+
+#[no_mangle]
+pub extern "C" fn layout_spacing(
+    rules: &mut [u16],
+    used: u16,
+    t: u16,
+    a: u16,
+    b: u16,
+    d: u16,
+    touch: u16,
+    reason: u16,
+) -> u64
+    ensures { λ r. ⌜ MacroPacked (λ n k. Spaced (now (rules .entry)) used t a b d touch reason n k (now (rules .exit))) r ⌝ }
+{
+    pack_macro(spacing(rules, wide(used), t, a, b, d, touch, reason))
 }
