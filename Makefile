@@ -1,17 +1,115 @@
-# make demo   proves and runs the demonstration
-# make test   the gate: layout of the sources, every proof from nothing, every must-fail edit, every program
-# make fmt    lays the sources out
+# make demo       proves and runs the demonstration
+# make test       the gate: layout of the sources, every proof from nothing, every must-fail edit, every program, the C tests
+# make fmt        lays the sources out
+# make lib        build/liblayout.a with build/layout.h and build/layout.pc; make install PREFIX=/usr/local DESTDIR= puts them in place
+# make examples   builds the example editor in C, runs it and compares what it prints
+# make check-c    the C tests alone: examples, worked squares, CASES calls and SCRIPTS sessions against a naive implementation
+# make fuzz N=1000000 SEED=1    more calls and sessions; the seed of a difference is printed
+# make valgrind   some hundred calls and sessions under valgrind
 
-.PHONY: demo test fmt
+.PHONY: demo test fmt lib install examples check-c check-header check-session fuzz valgrind
+
+PREFIX = /usr/local
+VERSION = 1.0
+CASES = 30000
+SCRIPTS = 100
+N = 1000000
+SEED = 1
+SESSION = target/bin/session
+STRICT = -std=c99 -Wall -Wextra -Wpedantic -Werror
+CFLAGS = -O2 -g
+
+NAIVE = build/naive_plane.o build/naive_rules.o build/naive_layout.o
+SOURCES := $(shell find crates/plane crates/paint crates/rules crates/piece crates/checker -name '*.rt' -o -name '*.antt')
 
 demo:
 	@mkdir -p target
 	@rt check demo > target/demo.log 2>&1 || { cat target/demo.log; exit 1; }
 	@target/bin/demo
 
+# rt ci removes target/ and proves all; the archive and the program are taken from what it leaves. Its last line is printed again at the end.
 test:
 	@rt fmt --check
-	@rt ci
+	@rm -rf build
+	@mkdir -p build
+	@{ rt ci; echo $$? > build/ci.status; } 2>&1 | tee build/ci.log
+	@exit "$$(cat build/ci.status)"
+	@$(MAKE) --no-print-directory -s check-c valgrind
+	@tail -n 1 build/ci.log
 
 fmt:
 	@rt fmt
+
+lib: build/liblayout.a build/layout.h build/layout.pc
+
+build/liblayout.a: $(SOURCES) crates.txt
+	@mkdir -p build
+	@rt staticlib checker > build/staticlib.log 2>&1 || { cat build/staticlib.log; exit 1; }
+	@cp target/staticlib/libchecker.a $@
+
+build/layout.h: include/layout.h
+	@mkdir -p build
+	@cp include/layout.h $@
+
+build/layout.pc: layout.pc.in Makefile
+	@mkdir -p build
+	@sed 's,@PREFIX@,$(PREFIX),; s,@VERSION@,$(VERSION),' layout.pc.in > $@
+
+install: lib
+	@install -d $(DESTDIR)$(PREFIX)/lib/pkgconfig $(DESTDIR)$(PREFIX)/include
+	@install -m 644 build/liblayout.a $(DESTDIR)$(PREFIX)/lib/liblayout.a
+	@install -m 644 include/layout.h $(DESTDIR)$(PREFIX)/include/layout.h
+	@sed 's,@PREFIX@,$(PREFIX),; s,@VERSION@,$(VERSION),' layout.pc.in > $(DESTDIR)$(PREFIX)/lib/pkgconfig/layout.pc
+	@chmod 644 $(DESTDIR)$(PREFIX)/lib/pkgconfig/layout.pc
+
+build/%.o: tests/%.c tests/naive.h tests/random.h tests/lent.h tests/cases.h include/layout.h
+	@mkdir -p build
+	@$(CC) $(STRICT) $(CFLAGS) -Iinclude -c $< -o $@
+
+build/editor: examples/editor.c include/layout.h build/liblayout.a
+	@$(CC) $(STRICT) $(CFLAGS) -Iinclude $< build/liblayout.a -o $@
+
+build/worked: build/worked.o build/liblayout.a
+	@$(CC) $< build/liblayout.a -o $@
+
+COMPARE = build/compare.o build/cases.o build/damage.o build/lent.o $(NAIVE)
+
+build/compare: $(COMPARE) build/liblayout.a
+	@$(CC) $(COMPARE) build/liblayout.a -o $@
+
+build/naive_session: build/naive_session.o $(NAIVE)
+	@$(CC) $^ -o $@
+
+build/scripts: build/scripts.o
+	@$(CC) $^ -o $@
+
+examples: build/editor
+	@build/editor > build/editor.out
+	@diff examples/editor.expected build/editor.out
+	@echo "editor: printed what is expected"
+
+check-header:
+	@printf '#include "layout.h"\nint main(void) { return 0; }\n' > build/header.c
+	@$(CC) $(STRICT) -Iinclude build/header.c -o build/header
+	@if command -v $(CXX) > /dev/null; then $(CXX) -x c++ -std=c++98 -Wall -Wextra -Wpedantic -Werror -Iinclude build/header.c -o build/header; \
+	else echo "header: no C++ compiler, not tried in C++"; fi
+	@echo "header: C99 and C++ without warnings"
+
+check-session: build/naive_session build/scripts
+	@if [ -x $(SESSION) ]; then tests/session.sh $(SESSION) build $(SCRIPTS) $(SEED); \
+	else echo "session: $(SESSION) is not there, not compared"; fi
+
+check-c: lib examples build/worked build/compare check-session
+	@$(MAKE) --no-print-directory -s check-header
+	@build/worked
+	@build/compare $(SEED) $(CASES)
+
+fuzz: lib build/compare build/naive_session build/scripts
+	build/compare $(SEED) $(N)
+	@if [ -x $(SESSION) ]; then tests/session.sh $(SESSION) build $$(($(N) / 200)) $(SEED); fi
+
+valgrind: build/compare build/naive_session build/scripts
+	@if ! command -v valgrind > /dev/null; then echo "valgrind: not installed (Debian package valgrind), skipped"; else \
+	valgrind -q --error-exitcode=1 build/compare $(SEED) 600 small > build/valgrind.out || { cat build/valgrind.out; exit 1; }; \
+	if [ -x $(SESSION) ]; then for i in 1 2 3 4 5; do build/scripts $$i | valgrind -q --error-exitcode=1 $(SESSION) > /dev/null || exit 1; done; fi; \
+	echo "valgrind: 600 calls, nothing found"; fi
