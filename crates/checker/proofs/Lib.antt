@@ -13,5 +13,10 @@ pub mod MarkErrors
 pub mod OnePiece
 pub mod Turns
 pub mod Checkings
+pub mod Runs
 pub mod CheckStays
 pub mod PacksCheck
+pub mod FarSquares
+pub mod Histories
+pub mod SettledAreas
+pub mod Ends

@@ -1,4 +1,4 @@
--- One piece: what the steps of its check are handed, what they make of errors and waiting, and that a layout with room for it is fit again.
+-- One piece: what the steps of its check are handed, what they make of errors and waiting, what the tables show then, and that a layout with room for it is fit again.
 use Prim.Native.Nat.{ℕ, _+_, _*_, _≤_, _<_}
 use native.Mathlib.Omega.{arith}
 use mathlib.Core.Bool.{Bool, true, false, not, cond, _&&_}
@@ -31,6 +31,7 @@ use Rattle.checker.specs.Ready.{Fit}
 use Rattle.checker.proofs.MarkErrors.{taken}
 use Rattle.checker.proofs.Paints.{again-fits}
 use Rattle.checker.proofs.Shapes.{layout-words, marks-area}
+use Rattle.checker.proofs.Shows.{made-shows}
 
 -- ---- tables and pictures
 -- marks of another picture of their window, if it has room
@@ -133,30 +134,51 @@ module _ {l : Layout} {work rules : List ℕ} {used bx by : ℕ} (P : PieceIn l 
         }
 
   -- ---- afterwards
-  pub checked-fit : pieceFits l (rulesOf rules used) (haloOf rules used) bx by ≡ true → Fit (checkedPiece l (rulesOf rules used) (haloOf rules used) bx by) rules used
-  unfolding pieceFits
-  checked-fit f =
-      let L = P .fit .lengths .tables in
-      let I = P .fit .tables in
-      let q = pieceErrors l (rulesOf rules used) (haloOf rules used) bx by in
-      let s = pieceWaiting l bx by in
-      let u = leb-true (errorTiles l rules used bx by) (room l) (and-left (leb (errorTiles l rules used bx by) (room l)) (leb (waitingTiles l bx by) (room l)) f) in
-      let v = leb-true (waitingTiles l bx by) (room l) (and-right (leb (errorTiles l rules used bx by) (room l)) (leb (waitingTiles l bx by) (room l)) f) in
-      let a : errorTiles l rules used bx by ≤ roomIn (length (l .errors)) = subst (λ (n : ℕ). errorTiles l rules used bx by ≤ roomIn n) (sym (L .errors)) u in
-      let b : waitingTiles l bx by ≤ roomIn (length (l .waiting)) = subst (λ (n : ℕ). waitingTiles l bx by ≤ roomIn n) (sym (L .waiting)) v in
-      record {
-        lengths = record {
-          tables = record {
-            material = L .material;
-            errors = table-words (roomIn (length (l .errors))) (width (l .errors)) (height (l .errors)) (kinds (l .errors)) q a ∙ (ap (λ (n : ℕ). 4 + 9 * roomIn n) (L .errors) ∙ sym (L .material .words));
-            waiting = table-words (roomIn (length (l .waiting))) (width (l .waiting)) (height (l .waiting)) (kinds (l .waiting)) s b ∙ (ap (λ (n : ℕ). 4 + 9 * roomIn n) (L .waiting) ∙ sym (L .material .words));
+  -- the types of what a piece makes
+  errors-types : (x y : ℕ) → x < width (l .errors) → y < height (l .errors) → pieceErrors l (rulesOf rules used) (haloOf rules used) bx by x y < kinds (l .errors)
+  errors-types x y m n =
+      let T = P .fit .tables .errors .table in
+      remarked-types (width (l .material)) (height (l .material)) (pictureOf (l .material)) (rulesOf rules used) (haloOf rules used) bx by (pictureOf (l .errors)) (kinds (l .errors)) x y (T .header .sizes .two) (T .types x y m n)
+
+  waiting-types : (x y : ℕ) → x < width (l .waiting) → y < height (l .waiting) → pieceWaiting l bx by x y < kinds (l .waiting)
+  waiting-types = painted-types (nearArea (width (l .waiting)) (height (l .waiting)) 0 bx by) 0 (P .fit .tables .waiting .table) (omega (arith, waiting-kinds))
+
+  module _ (f : pieceFits l (rulesOf rules used) (haloOf rules used) bx by ≡ true) where
+    errors-room : errorTiles l rules used bx by ≤ roomIn (length (l .errors))
+    unfolding pieceFits
+    errors-room = subst (λ (n : ℕ). errorTiles l rules used bx by ≤ roomIn n) (sym (P .fit .lengths .tables .errors)) (leb-true (errorTiles l rules used bx by) (room l) (and-left (leb (errorTiles l rules used bx by) (room l)) (leb (waitingTiles l bx by) (room l)) f))
+
+    waiting-room : waitingTiles l bx by ≤ roomIn (length (l .waiting))
+    unfolding pieceFits
+    waiting-room = subst (λ (n : ℕ). waitingTiles l bx by ≤ roomIn n) (sym (P .fit .lengths .tables .waiting)) (leb-true (waitingTiles l bx by) (room l) (and-right (leb (errorTiles l rules used bx by) (room l)) (leb (waitingTiles l bx by) (room l)) f))
+
+    -- the tables show it
+    pub errors-show : (x y : ℕ) → x < width (l .errors) → y < height (l .errors)
+        → pictureOf (checkedPiece l (rulesOf rules used) (haloOf rules used) bx by .errors) x y ≡ pieceErrors l (rulesOf rules used) (haloOf rules used) bx by x y
+    errors-show =
+        let q = pieceErrors l (rulesOf rules used) (haloOf rules used) bx by in
+        made-shows (roomIn (length (l .errors))) (width (l .errors)) (height (l .errors)) (kinds (l .errors)) q (tableLike (l .errors) q) refl errors-room (P .fit .tables .errors .table .header .sizes) errors-types
+
+    pub waiting-show : (x y : ℕ) → x < width (l .waiting) → y < height (l .waiting) → pictureOf (checkedPiece l (rulesOf rules used) (haloOf rules used) bx by .waiting) x y ≡ pieceWaiting l bx by x y
+    waiting-show =
+        let q = pieceWaiting l bx by in
+        made-shows (roomIn (length (l .waiting))) (width (l .waiting)) (height (l .waiting)) (kinds (l .waiting)) q (tableLike (l .waiting) q) refl waiting-room (P .fit .tables .waiting .table .header .sizes) waiting-types
+
+    pub checked-fit : Fit (checkedPiece l (rulesOf rules used) (haloOf rules used) bx by) rules used
+    checked-fit =
+        let L = P .fit .lengths .tables in
+        let I = P .fit .tables in
+        let q = pieceErrors l (rulesOf rules used) (haloOf rules used) bx by in
+        let s = pieceWaiting l bx by in
+        record {
+          lengths = record {
+            tables = record {
+              material = L .material;
+              errors = table-words (roomIn (length (l .errors))) (width (l .errors)) (height (l .errors)) (kinds (l .errors)) q errors-room ∙ (ap (λ (n : ℕ). 4 + 9 * roomIn n) (L .errors) ∙ sym (L .material .words));
+              waiting = table-words (roomIn (length (l .waiting))) (width (l .waiting)) (height (l .waiting)) (kinds (l .waiting)) s waiting-room ∙ (ap (λ (n : ℕ). 4 + 9 * roomIn n) (L .waiting) ∙ sym (L .material .words));
+            };
+            list = P .fit .lengths .list;
           };
-          list = P .fit .lengths .list;
-        };
-        tables = record {
-          material = I .material;
-          errors = marks-again q (I .errors) a (λ x y m n. remarked-types (width (l .material)) (height (l .material)) (pictureOf (l .material)) (rulesOf rules used) (haloOf rules used) bx by (pictureOf (l .errors)) (kinds (l .errors)) x y (I .errors .table .header .sizes .two) (I .errors .table .types x y m n));
-          waiting = marks-again s (I .waiting) b (painted-types (nearArea (width (l .waiting)) (height (l .waiting)) 0 bx by) 0 (I .waiting .table) (omega (arith, waiting-kinds)));
-        };
-        sound = P .fit .sound;
-      }
+          tables = record { material = I .material; errors = marks-again q (I .errors) errors-room errors-types; waiting = marks-again s (I .waiting) waiting-room waiting-types };
+          sound = P .fit .sound;
+        }

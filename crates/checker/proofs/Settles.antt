@@ -1,9 +1,8 @@
 -- What settled says, square by square: it is 1 exactly if no square of the window within k of the area waits. A count is 0 exactly if nothing is counted.
-use Prim.Native.Nat.{ℕ, zero, suc, _+_, _-_, _≤_, _<_}
+use Prim.Native.Nat.{ℕ, _+_, _-_, _≤_, _<_}
 use native.Mathlib.Omega.{arith}
 use mathlib.Core.Bool.{Bool, true, false, cond}
 use mathlib.Core.Path.{_≡_, refl, sym, _∙_, ap}
-use mathlib.Core.Logic.{⊎-elim}
 use mathlib.Core.List.{List}
 use lib.Dec.{eqb}
 use borrow.Author.Tests.{eq-eqb, ne-eqb, eqb-true}
@@ -12,7 +11,7 @@ use Rattle.plane.specs.Area.{squaresIn}
 use Rattle.plane.specs.Checks.{sumTo}
 use Rattle.plane.specs.Picture.{Picture}
 use Rattle.plane.specs.Words.{width, height, pictureOf}
-use Rattle.plane.proofs.Basics.{lt-or-ge}
+use Rattle.plane.proofs.Counting.{none-of, sum-none}
 use Rattle.checker.specs.Report.{around, settled}
 
 -- (x,y) lies within k of the area
@@ -21,17 +20,6 @@ pub record Near (k : ℕ) (a : Area) (x y : ℕ) : Type 0 where
   pub right : x < a .x2 + k
   pub low : a .y1 ≤ y + k
   pub high : y < a .y2 + k
-
--- ---- sums
-sum-none : (n : ℕ) (f : ℕ → ℕ) → ((i : ℕ) → i < n → f i ≡ 0) → sumTo n f ≡ 0
-unfolding sumTo
-sum-none zero f h = refl
-sum-none (suc n) f h = omega (arith, sum-none n f (λ i u. h i (omega arith)), h n (omega arith))
-
-none-of : (n : ℕ) (f : ℕ → ℕ) → sumTo n f ≡ 0 → (i : ℕ) → i < n → f i ≡ 0
-unfolding sumTo
-none-of zero f e i u = absurd (omega arith)
-none-of (suc n) f e i u = ⊎-elim (λ (v : i < n). none-of n f (omega arith) i v) (λ (v : n ≤ i). let s : i ≡ n = omega arith in ap f s ∙ omega arith) (lt-or-ge i n)
 
 -- ---- squares
 no-squares : (p : Picture) (k : ℕ) (a : Area) → ((x y : ℕ) → a .x1 ≤ x → x < a .x2 → a .y1 ≤ y → y < a .y2 → p x y ≡ k → ⊥) → squaresIn p k a ≡ 0

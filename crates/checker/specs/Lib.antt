@@ -9,3 +9,4 @@ pub mod Report
 pub mod Answers
 pub mod Steps
 pub mod Pack
+pub mod History

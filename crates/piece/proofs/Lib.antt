@@ -3,6 +3,7 @@ pub mod Truths
 pub mod Tiles
 pub mod Fills
 pub mod Blocks
+pub mod Counts
 pub mod Waited
 pub mod Cuts
 pub mod Marking

@@ -1,10 +1,11 @@
--- The pieces of a window, blocks of 16 by 16 squares: which of them wait, the lowest, and how many they are.
+-- The pieces of a window, blocks of 16 by 16 squares: which of them wait or are touched, the lowest, and how many they are.
 use Prim.Native.Nat.{ℕ, _+_, _*_, _/_, _%_, _<_, _≤_}
 use mathlib.Core.Bool.{Bool, true, false, not, cond, _&&_}
 use mathlib.Core.Path.{_≡_}
 use mathlib.Core.Logic.{_⊎_}
 use lib.Dec.{eqb, ltb}
-use Rattle.plane.specs.Picture.{Picture, extent}
+use Rattle.plane.specs.declared.tile.Area.{Area}
+use Rattle.plane.specs.Picture.{Picture, extent, inArea}
 use Rattle.plane.specs.Checks.{sumTo}
 use Rattle.rules.specs.Some.{some}
 use Rattle.piece.specs.declared.waits.Block.{Block}
@@ -37,6 +38,14 @@ pieceWaits w h p bx by = someIn bx by (waitsAt w h p)
 -- how many pieces wait
 unfoldable pub waitingPieces : ℕ → ℕ → Picture → ℕ
 waitingPieces w h p = pieces w h (pieceWaits w h p)
+
+-- does the area share a square of the window with the piece at column bx, row by
+unfoldable pub touches : ℕ → ℕ → Area → ℕ → ℕ → Bool
+touches w h a bx by = someIn bx by λ x y. inWindow w h x y && inArea a x y
+
+-- how many pieces an area touches
+unfoldable pub touched : ℕ → ℕ → Area → ℕ
+touched w h a = pieces w h (touches w h a)
 
 -- the number of the lowest waiting piece, by row and then column; that of all pieces where none waits
 unfoldable pub lowestPiece : ℕ → ℕ → Picture → ℕ

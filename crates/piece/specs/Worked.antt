@@ -5,7 +5,7 @@ use Rattle.plane.specs.Picture.{Picture, space, area, inArea, painted, extent}
 use Rattle.plane.specs.Checks.{sumTo}
 use Rattle.rules.specs.Some.{some}
 use Rattle.piece.specs.declared.waits.Block.the-variants.{At, Nothing}
-use Rattle.piece.specs.Pieces.{someIn, pieces, inWindow, waitsAt, pieceWaits, waitingPieces, lowestPiece, lowestBlock}
+use Rattle.piece.specs.Pieces.{someIn, pieces, inWindow, waitsAt, pieceWaits, waitingPieces, touches, touched, lowestPiece, lowestBlock}
 use Rattle.piece.specs.Remark.{nearArea}
 
 -- the waiting picture after that paint
@@ -25,3 +25,8 @@ pub two-wait :
     × (lowestBlock 40 20 (done (done bar 0 0) 1 0) ≡ Nothing)
 unfolding waitingPieces lowestBlock lowestPiece pieceWaits waitsAt inWindow someIn pieces some sumTo extent bar done painted inArea
 two-wait = (refl, refl, refl, refl, refl)
+
+-- the paint touches these two
+pub two-touched : touched 40 20 (area 15 0 17 1) ≡ 2
+unfolding touched touches inWindow someIn pieces some sumTo inArea
+two-touched = refl

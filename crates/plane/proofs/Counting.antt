@@ -11,7 +11,7 @@ use borrow.Author.Tests.{le-leb, lt-ltb, lt-leb, le-ltb}
 use Rattle.plane.specs.declared.tile.Tile.{Tile}
 use Rattle.plane.specs.Strips.{Box, Holds}
 use Rattle.plane.specs.Checks.{sumTo}
-use Rattle.plane.proofs.Basics.{lt-or-ge, and-both}
+use Rattle.plane.proofs.Basics.{lt-or-ge, eq-or-ne, and-both}
 
 pub sum-eq : (n : ℕ) (f g : ℕ → ℕ) → ((i : ℕ) → i < n → f i ≡ g i) → sumTo n f ≡ sumTo n g
 unfolding sumTo
@@ -68,6 +68,27 @@ sum-tight (suc n) f g h e i u =
     (λ (v : i < n). sum-tight n f g h' (omega (arith, h n (omega arith))) i v)
     (λ (v : n ≤ i). let q : i ≡ n = omega arith in rw q (omega (arith, sum-le n f g h')))
     (lt-or-ge i n)
+
+-- a sum of zeros, and back
+pub sum-none : (n : ℕ) (f : ℕ → ℕ) → ((i : ℕ) → i < n → f i ≡ 0) → sumTo n f ≡ 0
+sum-none n f e = sum-eq n f (λ i. 0) e ∙ sum-zero n
+
+pub none-of : (n : ℕ) (f : ℕ → ℕ) → sumTo n f ≡ 0 → (i : ℕ) → i < n → f i ≡ 0
+none-of n f e i u = omega (arith, sum-tight n (λ j. 0) f (λ j v. omega arith) (omega (arith, e, sum-zero n)) i u)
+
+-- terms that are no more than two others together
+pub sum-split : (n : ℕ) (f g k : ℕ → ℕ) → ((i : ℕ) → i < n → f i ≤ g i + k i) → sumTo n f ≤ sumTo n g + sumTo n k
+sum-split n f g k h = omega (arith, sum-le n f (λ i. g i + k i) h, sum-add n g k)
+
+-- one term lower, the others the same
+pub sum-less : (n : ℕ) (f g : ℕ → ℕ) (a : ℕ) → a < n → f a + 1 ≡ g a → ((i : ℕ) → i < n → (i ≡ a → ⊥) → f i ≡ g i) → sumTo n f + 1 ≡ sumTo n g
+unfolding sumTo
+sum-less zero f g a l e h = absurd (omega arith)
+sum-less (suc n) f g a l e h = ⊎-elim
+    (λ (p : n ≡ a). let y : f n + 1 ≡ g n = ap (λ z. f z + 1) p ∙ e ∙ ap g (sym p) in
+    omega (arith, sum-eq n f g (λ i m. h i (omega arith) (λ z. omega arith)), y))
+    (λ (q : n ≡ a → ⊥). omega (arith, sum-less n f g a (omega (arith, q)) e (λ i j z. h i (omega arith) z), h n (omega arith) q))
+    (eq-or-ne n a)
 
 sum-one : (n : ℕ) (f : ℕ → ℕ) (i : ℕ) → i < n → f i ≤ sumTo n f
 unfolding sumTo

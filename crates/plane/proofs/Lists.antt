@@ -1,9 +1,11 @@
--- Joined lists, and ordered lists of tiles: membership and order.
-use Prim.Native.Nat.{ℕ, zero, suc, _≤_, _<_}
+-- Joined lists, and ordered lists of tiles: membership, length and order.
+use Prim.Native.Nat.{ℕ, zero, suc, _*_, _≤_, _<_}
 use native.Mathlib.Omega.{arith}
+use native.Mathlib.Nat.{suc-mul}
 use mathlib.Core.Path.{_≡_, refl, sym, _∙_}
 use mathlib.Core.Logic.{⊎-elim}
 use mathlib.Core.List.{List, [], _∷_, _++_, List·Memᴰ, List·Memᴰ·head, List·Memᴰ·tail, List·Memᴰ·not-nil, List·Memᴰ·cases-cons, Memᴰ·append-left, Memᴰ·append-right, List·Memᴰ·append-cases}
+use lib.ListN.{length, length-append}
 use Rattle.plane.specs.Picture.{joined}
 use Rattle.plane.specs.declared.tile.Tile.{Tile}
 use Rattle.plane.specs.Strips.{Precedes, Ordered}
@@ -26,6 +28,12 @@ mem-joined {A} {a} (suc n) f i h m =
     (λ (u : i < n). Memᴰ·append-left (f n) (mem-joined n f i u m))
     (λ (u : n ≤ i). let e : i ≡ n = omega arith in Memᴰ·append-right (joined n f) (rw e at m))
     (lt-or-ge i n)
+
+-- n lists of at most c entries
+pub joined-few : {A : Type 0} (n : ℕ) (f : ℕ → List A) (c : ℕ) → ((i : ℕ) → length (f i) ≤ c) → length (joined n f) ≤ n * c
+unfolding joined
+joined-few zero f c e = omega arith
+joined-few (suc n) f c e = omega (arith, length-append (joined n f) (f n), joined-few n f c e, e n, suc-mul n c)
 
 pub ordered-append : (s t : List Tile) → Ordered s → Ordered t → ((a b : Tile) → List·Memᴰ a s → List·Memᴰ b t → Precedes a b) → Ordered (s ++ t)
 ordered-append [] t os ot h = ot

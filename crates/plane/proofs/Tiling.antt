@@ -1,18 +1,20 @@
 -- The strips of a picture: the executable list has the declared properties, and these determine it.
-use Prim.Native.Nat.{ℕ, zero, suc, _-_, _≤_, _<_}
+use Prim.Native.Nat.{ℕ, zero, suc, _-_, _*_, _≤_, _<_}
 use native.Mathlib.Omega.{arith}
+use native.Mathlib.Nat.{mul-comm}
 use mathlib.Core.Bool.{Bool, true, false, cond}
 use mathlib.Core.Path.{_≡_, refl, sym, _∙_, ap, subst}
 use mathlib.Core.Logic.{_⊎_, inl, inr, ⊎-elim}
 use mathlib.Core.List.{List, [], _∷_, List·Memᴰ, List·Memᴰ·head, List·Memᴰ·not-nil, List·Memᴰ·eq-of-singleton}
 use lib.Dec.{eqb}
+use lib.ListN.{length}
 use borrow.Author.Tests.{eqb-true, not-true}
 use Rattle.plane.specs.Picture.{Picture, runEnd, begins, sameRun, corner, stripTop, cell, tiles, joined}
 use Rattle.plane.specs.declared.tile.Tile.{Tile}
 use Rattle.plane.specs.Strips.{Run, RunOf, Strip, Holds, Ordered, Strips}
 use Rattle.plane.proofs.Basics.{bool-cases, tf, lt-or-ge, and-left, and-right, and-both}
 use Rattle.plane.proofs.Runs.{Extent, extent-is, end-past, end-within, start-begins, run-here, run-kind, run-left, run-right, same-run, run-same}
-use Rattle.plane.proofs.Lists.{joined-mem, mem-joined, ordered-joined, ordered-same}
+use Rattle.plane.proofs.Lists.{joined-few, joined-mem, mem-joined, ordered-joined, ordered-same}
 
 abbrev pub stripAt : ℕ → ℕ → Picture → ℕ → ℕ → Tile
 stripAt w h p x y = record { left = x; bottom = y; right = runEnd w p x y; top = stripTop w h p x y; kind = p x y }
@@ -233,3 +235,14 @@ strips-one w h p a b A B = ordered-same a b (A .ordered) (B .ordered) (λ t. int
 
 pub strips-are-tiles : (w h : ℕ) (p : Picture) (ts : List Tile) → Strips w h p ts → ts ≡ tiles w h p
 strips-are-tiles w h p ts s = strips-one w h p ts (tiles w h p) s (tiles-strips w h p)
+
+-- a picture has no more tiles than squares
+pub tiles-few : (w h : ℕ) (p : Picture) → length (tiles w h p) ≤ w * h
+unfolding tiles cell
+tiles-few w h p =
+    let row : (y : ℕ) → length (joined w (λ x. cell w h p y x)) ≤ w = (λ y. let f = joined-few w (λ x. cell w h p y x) 1 (λ x. one (corner w p x y) (stripAt w h p x y)) in omega (arith, f)) in
+    omega (arith, joined-few h (λ y. joined w (λ x. cell w h p y x)) w row, mul-comm h w)
+  where
+    one : (b : Bool) (t : Tile) → length (cond b (t ∷ []) []) ≤ 1
+    one true t = omega arith
+    one false t = omega arith
