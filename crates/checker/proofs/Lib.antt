@@ -20,3 +20,4 @@ pub mod FarSquares
 pub mod Histories
 pub mod SettledAreas
 pub mod Ends
+pub mod Useless

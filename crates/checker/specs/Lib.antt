@@ -10,3 +10,4 @@ pub mod Answers
 pub mod Steps
 pub mod Pack
 pub mod History
+pub mod Worked

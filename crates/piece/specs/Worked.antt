@@ -1,11 +1,11 @@
--- A starred line of document 01 that concerns pieces, by computing: 40 by 20, paint 15 0 17 1 1.
+-- The order of pieces and the pieces that an area touches, by computing, for the 40 by 20 line of document 01: paint 15 0 17 1 1.
 use Prim.Native.Nat.{ℕ}
 use mathlib.Core.Path.{_≡_, refl}
 use Rattle.plane.specs.Picture.{Picture, space, area, inArea, painted, extent}
 use Rattle.plane.specs.Checks.{sumTo}
 use Rattle.rules.specs.Some.{some}
 use Rattle.piece.specs.declared.waits.Block.the-variants.{At, Nothing}
-use Rattle.piece.specs.Pieces.{someIn, pieces, inWindow, waitsAt, pieceWaits, waitingPieces, touches, touched, lowestPiece, lowestBlock}
+use Rattle.piece.specs.Pieces.{someIn, pieces, inWindow, waitsAt, pieceWaits, touches, touched, lowestPiece, lowestBlock}
 use Rattle.piece.specs.Remark.{nearArea}
 
 -- the waiting picture after that paint
@@ -16,15 +16,10 @@ bar = painted space (area 15 0 17 1) 1
 unfoldable pub done : Picture → (bx by : ℕ) → Picture
 done p bx by = painted p (nearArea 40 20 0 bx by) 0
 
--- two pieces wait; the lowest done leaves one; that one done leaves none
-pub two-wait :
-    (waitingPieces 40 20 bar ≡ 2)
-    × (lowestBlock 40 20 bar ≡ At 0 0)
-    × (waitingPieces 40 20 (done bar 0 0) ≡ 1)
-    × (lowestBlock 40 20 (done bar 0 0) ≡ At 1 0)
-    × (lowestBlock 40 20 (done (done bar 0 0) 1 0) ≡ Nothing)
-unfolding waitingPieces lowestBlock lowestPiece pieceWaits waitsAt inWindow someIn pieces some sumTo extent bar done painted inArea
-two-wait = (refl, refl, refl, refl, refl)
+-- the lowest piece that waits is the first; with that done, the second; with both done, none
+pub in-order : (lowestBlock 40 20 bar ≡ At 0 0) × (lowestBlock 40 20 (done bar 0 0) ≡ At 1 0) × (lowestBlock 40 20 (done (done bar 0 0) 1 0) ≡ Nothing)
+unfolding lowestBlock lowestPiece pieceWaits waitsAt inWindow someIn some extent bar done painted inArea
+in-order = (refl, refl, refl)
 
 -- the paint touches these two
 pub two-touched : touched 40 20 (area 15 0 17 1) ≡ 2

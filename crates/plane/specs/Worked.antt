@@ -1,4 +1,4 @@
--- The two starred tables of document 01, and questions to the first, by computing.
+-- Questions to the first two tables of document 01's worked squares, by computing; the tables themselves stand in the checker's list of all starred lines.
 use Prim.Native.Nat.{ℕ}
 use mathlib.Core.Path.{_≡_, refl}
 use mathlib.Core.List.{List, [], _∷_}
@@ -6,22 +6,6 @@ use Rattle.plane.specs.Area.{squaresIn, tilesIn}
 use Rattle.plane.specs.Picture.{table, painted, space, area}
 use Rattle.plane.specs.Side.{neighboursOf}
 use Rattle.plane.specs.Words.{numberAt, tileOf, pictureOf, kindIn, upTo}
-
--- 4 by 2, paint 1 0 2 2 1
-pub first : table 3 4 2 2 (painted space (area 1 0 2 2) 1) ≡ 3 ∷ 4 ∷ 2 ∷ 2 ∷
-    0 ∷ 0 ∷ 1 ∷ 2 ∷ 0 ∷ 65535 ∷ 65535 ∷ 1 ∷ 65535 ∷
-    1 ∷ 0 ∷ 2 ∷ 2 ∷ 1 ∷ 65535 ∷ 0 ∷ 2 ∷ 65535 ∷
-    2 ∷ 0 ∷ 4 ∷ 2 ∷ 0 ∷ 65535 ∷ 1 ∷ 65535 ∷ 65535 ∷ []
-unfolding table painted
-first = refl
-
--- 3 by 2, paint 0 1 1 2 1
-pub second : table 3 3 2 2 (painted space (area 0 1 1 2) 1) ≡ 3 ∷ 3 ∷ 2 ∷ 2 ∷
-    0 ∷ 0 ∷ 3 ∷ 1 ∷ 0 ∷ 65535 ∷ 65535 ∷ 65535 ∷ 2 ∷
-    0 ∷ 1 ∷ 1 ∷ 2 ∷ 1 ∷ 0 ∷ 65535 ∷ 2 ∷ 65535 ∷
-    1 ∷ 1 ∷ 3 ∷ 2 ∷ 0 ∷ 0 ∷ 1 ∷ 65535 ∷ 65535 ∷ []
-unfolding table painted
-second = refl
 
 -- ---- the first table: the bar is tile 1, with tile 0 on its left and tile 2 on its right
 abbrev bar : List ℕ
