@@ -1,4 +1,4 @@
-# make demo       proves and runs the demonstration
+# make demo       proves the program and runs the specification's session, input and output side by side
 # make test       the gate: layout of the sources, every proof from nothing, every must-fail edit, every program, the C tests
 # make fmt        lays the sources out
 # make lib        build/liblayout.a with build/layout.h and build/layout.pc; make install PREFIX=/usr/local DESTDIR= puts them in place
@@ -23,9 +23,9 @@ NAIVE = build/naive_plane.o build/naive_rules.o build/naive_layout.o
 SOURCES := $(shell find crates/plane crates/paint crates/rules crates/piece crates/checker -name '*.rt' -o -name '*.antt')
 
 demo:
-	@mkdir -p target
-	@rt check demo > target/demo.log 2>&1 || { cat target/demo.log; exit 1; }
-	@target/bin/demo
+	@mkdir -p build
+	@rt check session > build/demo.log 2>&1 || { cat build/demo.log; exit 1; }
+	@target/bin/session < crates/session/stdin | paste crates/session/stdin - | awk -F '\t' '{ printf "%-24s %s\n", $$1, $$2 }'
 
 # rt ci removes target/ and proves all; the archive and the program are taken from what it leaves. Its last line is printed again at the end.
 test:
@@ -96,8 +96,8 @@ check-header:
 	@echo "header: C99 and C++ without warnings"
 
 check-session: build/naive_session build/scripts
-	@if [ -x $(SESSION) ]; then tests/session.sh $(SESSION) build $(SCRIPTS) $(SEED); \
-	else echo "session: $(SESSION) is not there, not compared"; fi
+	@[ -x $(SESSION) ] || { echo "session: no $(SESSION); run rt check session"; exit 1; }
+	@tests/session.sh $(SESSION) build $(SCRIPTS) $(SEED)
 
 check-c: lib examples build/worked build/compare check-session
 	@$(MAKE) --no-print-directory -s check-header
@@ -106,10 +106,10 @@ check-c: lib examples build/worked build/compare check-session
 
 fuzz: lib build/compare build/naive_session build/scripts
 	build/compare $(SEED) $(N)
-	@if [ -x $(SESSION) ]; then tests/session.sh $(SESSION) build $$(($(N) / 200)) $(SEED); fi
+	@tests/session.sh $(SESSION) build $$(($(N) / 200)) $(SEED)
 
 valgrind: build/compare build/naive_session build/scripts
 	@if ! command -v valgrind > /dev/null; then echo "valgrind: not installed (Debian package valgrind), skipped"; else \
 	valgrind -q --error-exitcode=1 build/compare $(SEED) 600 small > build/valgrind.out || { cat build/valgrind.out; exit 1; }; \
-	if [ -x $(SESSION) ]; then for i in 1 2 3 4 5; do build/scripts $$i | valgrind -q --error-exitcode=1 $(SESSION) > /dev/null || exit 1; done; fi; \
-	echo "valgrind: 600 calls, nothing found"; fi
+	for i in 1 2 3 4 5; do build/scripts $$i | valgrind -q --error-exitcode=1 $(SESSION) > /dev/null || exit 1; done; \
+	echo "valgrind: 600 calls and 5 sessions, nothing found"; fi
