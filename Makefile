@@ -5,9 +5,10 @@
 # make examples   builds the example editor in C, runs it and compares what it prints
 # make check-c    the C tests alone: examples, worked squares, CASES calls and SCRIPTS sessions against a naive implementation
 # make fuzz N=1000000 SEED=1    more calls and sessions; the seed of a difference is printed
-# make valgrind   some hundred calls and sessions under valgrind
+# make valgrind   some hundred calls and some sessions under valgrind
+# make bench      times the library, and Magic and KLayout where they are installed, on the same layouts; COUNT=1 counts instructions too
 
-.PHONY: demo test fmt lib install examples check-c check-header check-session fuzz valgrind
+.PHONY: demo test fmt lib install examples check-c check-header check-session fuzz valgrind bench
 
 PREFIX = /usr/local
 VERSION = 1.0
@@ -25,7 +26,7 @@ SOURCES := $(shell find crates/plane crates/paint crates/rules crates/piece crat
 demo:
 	@mkdir -p build
 	@rt check session > build/demo.log 2>&1 || { cat build/demo.log; exit 1; }
-	@target/bin/session < crates/session/stdin | paste crates/session/stdin - | awk -F '\t' '{ printf "%-24s %s\n", $$1, $$2 }'
+	@bin/session < crates/session/stdin | paste crates/session/stdin - | awk -F '\t' '{ printf "%-24s %s\n", $$1, $$2 }'
 
 # rt ci removes target/ and proves all; the archive and the program are taken from what it leaves. Its last line is printed again at the end.
 test:
@@ -113,3 +114,6 @@ valgrind: build/compare build/naive_session build/scripts
 	valgrind -q --error-exitcode=1 build/compare $(SEED) 600 small > build/valgrind.out || { cat build/valgrind.out; exit 1; }; \
 	for i in 1 2 3 4 5; do build/scripts $$i | valgrind -q --error-exitcode=1 $(SESSION) > /dev/null || exit 1; done; \
 	echo "valgrind: 600 calls and 5 sessions, nothing found"; fi
+
+bench: lib
+	@bench/run build/liblayout.a

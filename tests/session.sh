@@ -41,7 +41,7 @@ done
 echo "session: $scripts scripts, each whole and in pieces, answered alike"
 
 # A partner that waits for each answer before it asks again, and one that goes away.
-rm -f "$room/ask" "$room/tell"
+rm -f "$room/ask" "$room/tell" "$room/answers"
 mkfifo "$room/ask" "$room/tell"
 "$program" <"$room/ask" >"$room/tell" &
 exec 3>"$room/ask" 4<"$room/tell"
@@ -51,6 +51,7 @@ for line in "new 8 8 2" "check 1" "paint 0 0 1 1 9"; do
 done
 exec 3>&- 4<&-
 wait $! || fail "status $? at the end of the input"
-{ status=0; "$program" <"$top/examples/long.session" || status=$?; echo $status >"$room/status"; } | head -n 1 >"$room/got"
+printf 'ok\ncheck 0 0 0\nno 5 3\n' | cmp -s - "$room/answers" || fail "one line at a time"
+{ status=0; SESSION=$program "$top/bin/session" <"$top/examples/long.session" || status=$?; echo $status >"$room/status"; } | head -n 1 >"$room/got"
 [ "$(cat "$room/status")" = 0 ] || fail "status $(cat "$room/status") when nobody reads its output"
 echo "session: answers line by line, and ends when nobody reads its output"

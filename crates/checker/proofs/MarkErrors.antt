@@ -1,4 +1,4 @@
--- The errors of one piece: what the steps of marking them are handed and what they make. Where a calm piece has no error near, its marks are the old ones.
+-- The errors of one piece: what the steps of marking them are handed and what they make. Where a piece has no mark and no error is recorded near, the errors stay.
 use Prim.Native.Nat.{ℕ, _+_, _-_, _*_, _≤_, _<_}
 use native.Mathlib.Omega.{arith}
 use mathlib.Core.Bool.{Bool, true, false, cond}
@@ -20,16 +20,16 @@ use Rattle.plane.proofs.FromTable.{table-plane, tiles-agree}
 use Rattle.plane.proofs.Tables.{written-count}
 use Rattle.paint.specs.Brush.{Small}
 use Rattle.paint.specs.Paint.{tableLike}
-use Rattle.paint.specs.Tables.{Paintable, PaintedTo, TakenOver}
+use Rattle.paint.specs.Tables.{Paintable, PaintedTo}
 use Rattle.paint.proofs.Calls.{table-at}
 use Rattle.rules.specs.Words.{haloOf, rulesOf}
 use Rattle.rules.proofs.Window.{within}
 use Rattle.piece.specs.Calm.{Calm}
 use Rattle.piece.specs.Remark.{BlockIn, Checkable, nearArea, remarked}
-use Rattle.piece.specs.Rows.{PieceRows}
+use Rattle.piece.specs.Rows.{PieceRows, NoMarks}
 use Rattle.piece.proofs.Calms.{calm-remarked}
-use Rattle.piece.proofs.Remarks.{block-in, halo-in, near-in, near-small, stamped-piece}
-use Rattle.checker.specs.CheckSteps.{ErrorsIn, ErrorsMarked, NothingNear, errorsAfter}
+use Rattle.piece.proofs.Remarks.{block-in, halo-in, near-in, near-small, stamped-piece, unmarked-piece}
+use Rattle.checker.specs.CheckSteps.{ErrorsIn, ErrorsMarked, NothingNear, NothingMarked, errorsAfter}
 use Rattle.checker.proofs.Shapes.{marks-area}
 
 -- ---- an area without a type
@@ -63,6 +63,10 @@ clear-same {c} {ws} a T two e x y u v = ⊎-elim
 pub both-looks : {ms ws : List ℕ} {k bx by n : ℕ} (a : Area) (b : Bool) → (b ≡ true → Calm (width ms) (height ms) (pictureOf ms) k bx by) → b ≡ true → n ≡ squaresIn (pictureOf ws) 1 a → eqb n 0 ≡ true → NothingNear ms ws k bx by a
 both-looks {n = n} a b f e g z = record { calm = f e; clear = sym g ∙ eqb-true n 0 z }
 
+-- the two looks at its marks
+pub both-clear : {ws rows : List ℕ} {n : ℕ} (a : Area) (b : Bool) → (b ≡ true → NoMarks rows) → b ≡ true → n ≡ squaresIn (pictureOf ws) 1 a → eqb n 0 ≡ true → NothingMarked ws a rows
+both-clear {n = n} a b f e g z = record { none = f e; clear = sym g ∙ eqb-true n 0 z }
+
 -- ---- tables and pictures
 -- pictures that agree in the window are painted alike
 agree-to : {c r : ℕ} {ws vs : List ℕ} {p q : Picture} → ((x y : ℕ) → x < width ws → y < height ws → p x y ≡ q x y) → PaintedTo c ws p vs r → PaintedTo c ws q vs r
@@ -76,9 +80,9 @@ agree-to {c} {r} {ws} {vs} {p} {q} f P =
       sound = P .sound;
     }
 
--- what was made and taken over is the picture's table
-pub taken : {c r : ℕ} {ws us vs : List ℕ} {q : Picture} → c ≡ roomIn (length ws) → PaintedTo c ws q us r → r ≤ c → TakenOver c r ws us vs → vs ≡ tableLike ws q
-taken {ws = ws} {q = q} e P u T = T .done u ∙ (P .done u ∙ ap (λ (n : ℕ). table n (width ws) (height ws) (kinds ws) q) e)
+-- what was made and copied is the picture's table
+pub taken : {c r : ℕ} {ws us vs : List ℕ} {q : Picture} → c ≡ roomIn (length ws) → PaintedTo c ws q us r → r ≤ c → vs ≡ us → vs ≡ tableLike ws q
+taken {ws = ws} {q = q} e P u T = T ∙ (P .done u ∙ ap (λ (n : ℕ). table n (width ws) (height ws) (kinds ws) q) e)
 
 -- ---- what the steps are handed
 module _ {ms ws work rules : List ℕ} {used bx by : ℕ} (P : ErrorsIn ms ws work rules used bx by) where
@@ -125,26 +129,41 @@ module _ {ms ws work rules : List ℕ} {used bx by : ℕ} (P : ErrorsIn ms ws wo
       (agree-to {p = stamped (pictureOf ws) a rows} {q = remarked (width ms) (height ms) (pictureOf ms) (rulesOf rules used) k bx by (pictureOf ws)}
       (λ x y u v. ap (λ (b : Area). stamped (pictureOf ws) b rows x y) f ∙ stamped-piece (pictureOf ws) R x y (omega (arith, M .wide)) (omega (arith, M .tall))) W)
 
-  -- the errors of a calm piece stay, and so have room
-  pub errors-calm : {k : ℕ} {a : Area} → k ≡ haloOf rules used → a ≡ nearArea (width ms) (height ms) k bx by → NothingNear ms ws k bx by a → ErrorsMarked ms ws rules used bx by true ws
+  -- where no error is recorded near a piece, and a check of it would clear them, they stay, and so have room
+  errors-stay : (a : Area) → squaresIn (pictureOf ws) 1 a ≡ 0
+      → ((x y : ℕ) → x < width ms → y < height ms → painted (pictureOf ws) a 0 x y ≡ errorsAfter ms ws rules used bx by x y) → ErrorsMarked ms ws rules used bx by true ws
   unfolding table
-  errors-calm {k} {a} e f N =
+  errors-stay a z f =
       let M = P .marks in
-      let K : Calm (width ms) (height ms) (pictureOf ms) (haloOf rules used) bx by = subst (λ (n : ℕ). Calm (width ms) (height ms) (pictureOf ms) n bx by) e (N .calm) in
-      let g : a ≡ nearArea (width ms) (height ms) (haloOf rules used) bx by = f ∙ ap (λ (n : ℕ). nearArea (width ms) (height ms) n bx by) e in
       let t = tiles-agree (width ws) (height ws) (pictureOf ws) (errorsAfter ms ws rules used bx by) (λ x y u v.
-      sym (clear-same a (M .table) (M .two) (N .clear) x y u v)
-      ∙ (ap (λ (b : Area). painted (pictureOf ws) b 0 x y) g
-      ∙ calm-remarked (P .piece) K (pictureOf ws) x y (omega (arith, M .wide)) (omega (arith, M .tall)))) in
+      sym (clear-same a (M .table) (M .two) z x y u v) ∙ f x y (omega (arith, M .wide)) (omega (arith, M .tall))) in
       let n = ap count (M .table .same) ∙ written-count (roomIn (length ws)) (width ws) (height ws) (kinds ws) (tiles (width ws) (height ws) (pictureOf ws)) in
       record {
         fits = sym (le-leb afterTiles (roomIn (length ms)) (omega (arith, n, ap length t, M .table .room, ap roomIn (P .long))));
         leaves = M .table .same ∙ ap (written (roomIn (length ws)) (width ws) (height ws) (kinds ws)) t;
       }
 
+  -- the area near the block, for the halo of the rules
+  near-halo : {k : ℕ} {a : Area} → k ≡ haloOf rules used → a ≡ nearArea (width ms) (height ms) k bx by → a ≡ nearArea (width ms) (height ms) (haloOf rules used) bx by
+  near-halo e f = f ∙ ap (λ (n : ℕ). nearArea (width ms) (height ms) n bx by) e
+
+  -- so it is with a calm piece
+  pub errors-calm : {k : ℕ} {a : Area} → k ≡ haloOf rules used → a ≡ nearArea (width ms) (height ms) k bx by → NothingNear ms ws k bx by a → ErrorsMarked ms ws rules used bx by true ws
+  errors-calm {k} {a} e f N =
+      let K : Calm (width ms) (height ms) (pictureOf ms) (haloOf rules used) bx by = subst (λ (n : ℕ). Calm (width ms) (height ms) (pictureOf ms) n bx by) e (N .calm) in
+      errors-stay a (N .clear) (λ x y u v. ap (λ (b : Area). painted (pictureOf ws) b 0 x y) (near-halo e f) ∙ calm-remarked (P .piece) K (pictureOf ws) x y u v)
+
+  -- and with one without a mark
+  pub errors-unmarked : {k : ℕ} {a : Area} {rows : List ℕ} → k ≡ haloOf rules used → a ≡ nearArea (width ms) (height ms) k bx by
+      → PieceRows (width ms) (height ms) (pictureOf ms) (rulesOf rules used) k bx by rows → NothingMarked ws a rows → ErrorsMarked ms ws rules used bx by true ws
+  errors-unmarked {k} {a} {rows} e f R N =
+      let Q : PieceRows (width ms) (height ms) (pictureOf ms) (rulesOf rules used) (haloOf rules used) bx by rows
+      = subst (λ (n : ℕ). PieceRows (width ms) (height ms) (pictureOf ms) (rulesOf rules used) n bx by rows) e R in
+      errors-stay a (N .clear) (λ x y u v. ap (λ (b : Area). painted (pictureOf ws) b 0 x y) (near-halo e f) ∙ unmarked-piece (pictureOf ws) Q (N .none) x y u v)
+
   module _ {c r : ℕ} {us : List ℕ} (e : c ≡ roomIn (length ms)) (W : PaintedTo c ws (errorsAfter ms ws rules used bx by) us r) where
     pub errors-full : c < r → ErrorsMarked ms ws rules used bx by false ws
     errors-full u = record { fits = sym (lt-leb afterTiles (roomIn (length ms)) (omega (arith, W .full u))); leaves = refl }
 
-    pub errors-done : {vs : List ℕ} → r ≤ c → TakenOver c r ws us vs → ErrorsMarked ms ws rules used bx by true vs
+    pub errors-done : {vs : List ℕ} → r ≤ c → vs ≡ us → ErrorsMarked ms ws rules used bx by true vs
     errors-done u T = record { fits = sym (le-leb afterTiles (roomIn (length ms)) (omega (arith, W .number u))); leaves = taken (e ∙ ap roomIn (sym (P .long))) W u T }

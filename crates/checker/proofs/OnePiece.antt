@@ -15,7 +15,7 @@ use Rattle.plane.specs.Words.{height, kinds, pictureOf, roomIn, width}
 use Rattle.plane.proofs.Basics.{and-both, and-left, and-right, bool-cases}
 use Rattle.plane.proofs.FromTable.{table-plane}
 use Rattle.paint.specs.Paint.{tableLike}
-use Rattle.paint.specs.Tables.{Paintable, PaintedTo, TakenOver}
+use Rattle.paint.specs.Tables.{Paintable, PaintedTo, TilesAfter}
 use Rattle.paint.proofs.Again.{as-picture}
 use Rattle.paint.proofs.Calls.{table-at}
 use Rattle.paint.proofs.Whole.{like-table, painted-as, painted-types, table-size, table-words}
@@ -94,12 +94,19 @@ module _ {l : Layout} {work rules : List ℕ} {used bx by : ℕ} (P : PieceIn l 
   piece-errors e = record { piece = piece-checkable; room = P .fit .lengths .tables .material; marks = P .fit .tables .errors; long = P .fit .lengths .tables .errors; working = e ∙ P .working }
 
   -- ---- what they make
-  pub as-waiting : {c r : ℕ} {a : Area} {vs : List ℕ} → a ≡ nearArea (width (l .material)) (height (l .material)) 0 bx by
-      → PaintedTo c (l .waiting) (painted (pictureOf (l .waiting)) a 0) vs r → PaintedTo c (l .waiting) (pieceWaiting l bx by) vs r
-  as-waiting f W =
+  waiting-after : {a : Area} → a ≡ nearArea (width (l .material)) (height (l .material)) 0 bx by → painted (pictureOf (l .waiting)) a 0 ≡ pieceWaiting l bx by
+  waiting-after f =
       let M = P .fit .tables .waiting in
       let g : nearArea (width (l .material)) (height (l .material)) 0 bx by ≡ nearArea (width (l .waiting)) (height (l .waiting)) 0 bx by = λ i. nearArea (sym (M .wide) i) (sym (M .tall) i) 0 bx by in
-      painted-as (ap {B = Picture} (λ (b : Area). painted (pictureOf (l .waiting)) b 0) (f ∙ g)) W
+      ap {B = Picture} (λ (b : Area). painted (pictureOf (l .waiting)) b 0) (f ∙ g)
+
+  pub as-waiting : {c r : ℕ} {a : Area} {vs : List ℕ} → a ≡ nearArea (width (l .material)) (height (l .material)) 0 bx by
+      → PaintedTo c (l .waiting) (painted (pictureOf (l .waiting)) a 0) vs r → PaintedTo c (l .waiting) (pieceWaiting l bx by) vs r
+  as-waiting f W = painted-as (waiting-after f) W
+
+  pub as-waiting-tiles : {c r : ℕ} {a : Area} → a ≡ nearArea (width (l .material)) (height (l .material)) 0 bx by
+      → TilesAfter c (l .waiting) (painted (pictureOf (l .waiting)) a 0) r → TilesAfter c (l .waiting) (pieceWaiting l bx by) r
+  as-waiting-tiles {c} {r} f W = subst (λ (q : Picture). TilesAfter c (l .waiting) q r) (waiting-after f) W
 
   pub piece-unmarked : {b : Bool} {es : List ℕ} → ErrorsMarked (l .material) (l .errors) rules used bx by b es → not b ≡ true → PieceTried l rules used bx by false (lent (l .material) es (l .waiting))
   unfolding pieceFits
@@ -112,16 +119,16 @@ module _ {l : Layout} {work rules : List ℕ} {used bx by : ℕ} (P : PieceIn l 
       }
 
   module _ {c : ℕ} (e : c ≡ room l) where
-    pub piece-unwaited : {r : ℕ} {vs : List ℕ} → PaintedTo c (l .waiting) (pieceWaiting l bx by) vs r → c < r → PieceTried l rules used bx by false l
+    pub piece-unwaited : {r : ℕ} → TilesAfter c (l .waiting) (pieceWaiting l bx by) r → c < r → PieceTried l rules used bx by false l
     unfolding pieceFits
     piece-unwaited W u = record {
       fits = sym (no-second (leb (errorTiles l rules used bx by) (room l)) (leb (waitingTiles l bx by) (room l)) (lt-leb (waitingTiles l bx by) (room l) (omega (arith, W .full u))));
       leaves = refl;
     }
 
-    -- errors are marked and waiting is taken over, as it was drafted first
-    pub piece-checked : {b : Bool} {d s : ℕ} {es vs zs qs : List ℕ} → ErrorsMarked (l .material) (l .errors) rules used bx by b es → not b ≡ false
-        → PaintedTo c (l .waiting) (pieceWaiting l bx by) vs d → d ≤ c → PaintedTo c (l .waiting) (pieceWaiting l bx by) zs s → TakenOver c s (l .waiting) zs qs
+    -- errors are marked and waiting is copied, whose tiles were counted first
+    pub piece-checked : {b : Bool} {d s : ℕ} {es zs qs : List ℕ} → ErrorsMarked (l .material) (l .errors) rules used bx by b es → not b ≡ false
+        → TilesAfter c (l .waiting) (pieceWaiting l bx by) d → d ≤ c → PaintedTo c (l .waiting) (pieceWaiting l bx by) zs s → qs ≡ zs
         → PieceTried l rules used bx by true (lent (l .material) es qs)
     unfolding pieceFits
     piece-checked {b} E n W v Z S =

@@ -17,9 +17,9 @@ use Rattle.plane.specs.Words.{width, height, kinds, roomIn}
 use Rattle.plane.proofs.Basics.{lt-or-ge}
 use Rattle.plane.proofs.Lowests.{AllHold, told-done, refused-first, passed-first}
 use Rattle.paint.specs.Paint.{HasRoom, paintedOf, tableLike}
-use Rattle.paint.specs.Tables.{Paintable, PaintedTo, TakenOver}
+use Rattle.paint.specs.Tables.{Paintable, PaintedTo, TilesAfter}
 use Rattle.paint.proofs.Calls.{table-at}
-use Rattle.paint.proofs.Whole.{table-length}
+use Rattle.paint.proofs.Whole.{table-length, tiles-of}
 use Rattle.checker.specs.Layout.{Layout, room, OneLength, IsLayout}
 use Rattle.checker.specs.Paint.{BothFit, Painted}
 use Rattle.checker.specs.Steps.{paintTests, PaintTested, BothPainted, NonePainted, PaintedTables}
@@ -55,21 +55,22 @@ paintable-room : {c : ℕ} {ws : List ℕ} {a : Area} → Paintable c ws a → c
 paintable-room P = omega (arith, table-length (P .table))
 
 -- what had room once has it again
-pub again-fits : {c r s : ℕ} {ws vs zs : List ℕ} {q : Picture} → PaintedTo c ws q vs r → r ≤ c → PaintedTo c ws q zs s → s ≤ c
+pub again-fits : {c r s : ℕ} {ws zs : List ℕ} {q : Picture} → TilesAfter c ws q r → r ≤ c → PaintedTo c ws q zs s → s ≤ c
 again-fits {c} {r} {s} P u Q = ⊎-elim (λ (o : c < s). absurd (omega (arith, Q .full o, P .number u))) (λ (o : s ≤ c). o) (lt-or-ge c s)
 
-module _ {c r : ℕ} {ws vs : List ℕ} {q : Picture} (e : c ≡ roomIn (length ws)) (P : PaintedTo c ws q vs r) where
+module _ {c r : ℕ} {ws : List ℕ} {q : Picture} (e : c ≡ roomIn (length ws)) (P : TilesAfter c ws q r) where
   too-many : c < r → HasRoom ws q → ⊥
   too-many u H = omega (arith, P .full u, H, e)
 
   few-enough : r ≤ c → HasRoom ws q
   few-enough u = omega (arith, P .number u, e)
 
+module _ {c r : ℕ} {ws vs : List ℕ} {q : Picture} (e : c ≡ roomIn (length ws)) (P : PaintedTo c ws q vs r) where
   made : r ≤ c → vs ≡ tableLike ws q
   made u = P .done u ∙ ap (λ (n : ℕ). table n (width ws) (height ws) (kinds ws) q) e
 
 -- ---- both
-module _ {c : ℕ} {m q us : List ℕ} {a : Area} {kind n : ℕ} (W : Paintable c q a) (P : PaintedTo c q (paintedOf q a 1) us n) where
+module _ {c : ℕ} {m q : List ℕ} {a : Area} {kind n : ℕ} (W : Paintable c q a) (P : TilesAfter c q (paintedOf q a 1) n) where
   -- the waiting table would have too many tiles
   pub none-marked : c < n → NonePainted m q a kind m q
   none-marked u = record { full = λ H K. too-many (paintable-room W) P u K; material = refl; waiting = refl }
@@ -77,15 +78,15 @@ module _ {c : ℕ} {m q us : List ℕ} {a : Area} {kind n : ℕ} (W : Paintable 
   module _ {vs : List ℕ} {k : ℕ} (M : Paintable c m a) (Q : PaintedTo c m (paintedOf m a kind) vs k) where
     -- the material would
     pub none-painted : c < k → NonePainted m q a kind m q
-    none-painted u = record { full = λ H K. too-many (paintable-room M) Q u H; material = refl; waiting = refl }
+    none-painted u = record { full = λ H K. too-many (paintable-room M) (tiles-of Q) u H; material = refl; waiting = refl }
 
     -- neither
-    pub both-painted : {zs m' q' : List ℕ} {i : ℕ} → n ≤ c → k ≤ c → TakenOver c k m vs m' → PaintedTo c q (paintedOf q a 1) zs i → TakenOver c i q zs q' → BothPainted m q a kind m' q'
+    pub both-painted : {zs m' q' : List ℕ} {i : ℕ} → n ≤ c → k ≤ c → m' ≡ vs → PaintedTo c q (paintedOf q a 1) zs i → q' ≡ zs → BothPainted m q a kind m' q'
     both-painted u v T R S = record {
-      room = few-enough (paintable-room M) Q v;
+      room = few-enough (paintable-room M) (tiles-of Q) v;
       room-waiting = few-enough (paintable-room W) P u;
-      material = T .done v ∙ made (paintable-room M) Q v;
-      waiting = let w = again-fits P u R in S .done w ∙ made (paintable-room W) R w;
+      material = T ∙ made (paintable-room M) Q v;
+      waiting = let w = again-fits P u R in S ∙ made (paintable-room W) R w;
     }
 
 -- ---- the call

@@ -15,6 +15,7 @@ use Rattle.rules.specs.Vetting.{lowestBad}
 use Rattle.rules.specs.Words.{rulesOf, haloOf}
 use Rattle.piece.specs.Calm.{Calm}
 use Rattle.piece.specs.Remark.{Checkable, remarked}
+use Rattle.piece.specs.Rows.{NoMarks}
 use Rattle.checker.specs.declared.check.Ran.{Ran}
 use Rattle.checker.specs.declared.check.Turn.{Turn}
 use Rattle.checker.specs.declared.check.Turn.the-variants as turned
@@ -37,6 +38,11 @@ pub record PieceIn (l : Layout) (work rules : List ℕ) (used bx by : ℕ) : Typ
 -- a calm piece, in an area without errors
 pub record NothingNear (material errors : List ℕ) (k bx by : ℕ) (near : Area) : Type 0 where
   pub calm : Calm (width material) (height material) (pictureOf material) k bx by
+  pub clear : squaresIn (pictureOf errors) 1 near ≡ 0
+
+-- a piece without a mark, in an area without errors
+pub record NothingMarked (errors : List ℕ) (near : Area) (rows : List ℕ) : Type 0 where
+  pub none : NoMarks rows
   pub clear : squaresIn (pictureOf errors) 1 near ≡ 0
 
 -- a piece to check, the errors of its layout and a working room as long

@@ -2,11 +2,13 @@
 use crate::shape::Tested;
 use crate::shape::ready;
 use paint::table::clear;
+use paint::table::copy_all;
 use paint::table::paint_into;
 use paint::table::stamp_into;
-use paint::table::take_over;
+use paint::table::tiles_after;
 use piece::calm::calm;
 use piece::rows::near_area;
+use piece::rows::no_marks;
 use piece::rows::piece_rows;
 use piece::waits::Block;
 use piece::waits::lowest_waiting;
@@ -25,7 +27,7 @@ ghost use Rattle.checker.specs.Answers.{readyNumber, readyPlace};
 ghost use Rattle.checker.specs.Layout.{lent};
 ghost use Rattle.checker.specs.Check.{Checked};
 ghost use Rattle.checker.specs.Answers.{checkNumber, checkPlace, checkDone, checkLeft};
-ghost use Rattle.checker.specs.CheckSteps.{Runs, NothingNear, ErrorsIn, ErrorsMarked, PieceIn, PieceTried, Turned, RanTo, RanPieces, CheckTested, CheckedBut};
+ghost use Rattle.checker.specs.CheckSteps.{Runs, NothingNear, NothingMarked, ErrorsIn, ErrorsMarked, PieceIn, PieceTried, Turned, RanTo, RanPieces, CheckTested, CheckedBut};
 
 // The answer of check: the pieces done and left, also where a piece found no room (Full); or what the tests refuse.
 pub enum CheckAnswer {
@@ -61,7 +63,19 @@ fn nothing_near(material: &[u16], errors: &[u16], bx: u16, by: u16, k: u16, near
     false
 }
 
-// Marks the errors within the halo of the block; false, with errors as they were, where they have no room. A calm piece costs two looks.
+// Has the piece no mark, and the area near it no error recorded?
+fn nothing_marked(errors: &[u16], near: Area, rows: [u64; 48]) -> bool
+    requires { ⌜ Plane (now errors) × AreaIn (width (now errors)) (height (now errors)) near ⌝ }
+    ensures { λ r. ⌜ (r ≡ true → NothingMarked (now (errors .entry)) near rows) ⌝ }
+{
+    if no_marks(rows) {
+        return count_squares(errors, 1, near) == 0;
+    }
+    false
+}
+
+// Marks the errors within the halo of the block; false, with errors as they were, where they have no room. A calm piece costs two
+// looks, and one without a mark where no error is recorded leaves the errors alone.
 fn mark_errors(
     material: &[u16],
     errors: &mut [u16],
@@ -79,13 +93,16 @@ fn mark_errors(
     if nothing_near(material, errors, bx, by, k, near) {
         return true;
     }
-    let room = room_in(material.len());
     let rows = piece_rows(material, rules, used, bx, by, k);
+    if nothing_marked(errors, near, rows) {
+        return true;
+    }
+    let room = room_in(material.len());
     let marked = stamp_into(errors, near, rows, work, room);
     if room < marked {
         return false;
     }
-    take_over(errors, work, marked, room);
+    copy_all(work, errors);
     true
 }
 
@@ -105,15 +122,15 @@ pub fn check_piece(
 {
     let room = room_in(material.len());
     let block = near_area(material[1], material[2], bx, by, 0);
-    let drafted = paint_into(waiting, block, 0, work, room);
+    let drafted = tiles_after(waiting, block, 0, work, room);
     if room < drafted {
         return false;
     }
     if !mark_errors(material, errors, work, rules, used, bx, by) {
         return false;
     }
-    let cleared = paint_into(waiting, block, 0, work, room);
-    take_over(waiting, work, cleared, room);
+    paint_into(waiting, block, 0, work, room);
+    copy_all(work, waiting);
     true
 }
 

@@ -2,8 +2,9 @@
 use crate::shape::is_layout;
 use crate::shape::one_length;
 use paint::table::clear_from;
+use paint::table::copy_all;
 use paint::table::paint_into;
-use paint::table::take_over;
+use paint::table::tiles_after;
 use plane::answer::Answer;
 use plane::answer::Refusal;
 use plane::area::area_in;
@@ -33,7 +34,7 @@ fn paint_both(
     requires { ⌜ (length (now waiting) ≡ length (now material)) × (length (now work) ≡ length (now material)) ⌝ }
     ensures { λ r. ⌜ PaintedBoth (now (material .entry)) (now (waiting .entry)) a kind r (now (material .exit)) (now (waiting .exit)) ⌝ }
 {
-    let marked = paint_into(waiting, a, 1, work, room);
+    let marked = tiles_after(waiting, a, 1, work, room);
     if room < marked {
         return false;
     }
@@ -41,9 +42,9 @@ fn paint_both(
     if room < tiles {
         return false;
     }
-    take_over(material, work, tiles, room);
-    let again = paint_into(waiting, a, 1, work, room);
-    take_over(waiting, work, again, room);
+    copy_all(work, material);
+    paint_into(waiting, a, 1, work, room);
+    copy_all(work, waiting);
     true
 }
 

@@ -12,14 +12,16 @@ use Rattle.plane.specs.Picture.{Picture, area, bitOf, holds, inArea, painted, s
 use Rattle.plane.specs.Plane.{Plane}
 use Rattle.plane.specs.Words.{InRange, IsTable, count, height, kinds, pictureOf, tileOf, width}
 use Rattle.paint.specs.declared.brush.Brush.{Brush}
+use Rattle.paint.specs.Cover.{Built}
 use Rattle.paint.specs.Brush.{Given, Shown, Small, after, brushArea, brushTile, goal, inked}
-use Rattle.paint.specs.Tables.{MayPaint, Paintable, PaintedTo, Repainted}
+use Rattle.paint.specs.Tables.{FlatBrush, MayPaint, Paintable, PaintedTo, Repainted, TilesAfter}
 use Rattle.plane.proofs.Basics.{bool-cases, tf}
 use Rattle.plane.proofs.FromTable.{picture-table, table-plane}
 use Rattle.plane.proofs.Index.{holds-dec, later, mem-nth, mem-upTo}
 use Rattle.plane.proofs.Tables.{written-count, written-height, written-kinds, written-length, written-width}
 use Rattle.plane.proofs.Tiling.{tiles-strips}
 use Rattle.plane.proofs.ToTable.{plane-strips}
+use Rattle.paint.proofs.Finish.{built-number}
 use Rattle.paint.proofs.Pieces.{after-in, after-out}
 
 -- ---- a table, as the rebuild takes it
@@ -131,11 +133,28 @@ after-stamped p b e = ap {B = Picture} (after-cases p b) e
 pub flat-may : {c : ℕ} {ws : List ℕ} {b : Brush} → Paintable c ws (brushArea b) → b .kind < kinds ws → b .bits ≡ false → MayPaint c ws b
 flat-may P k e = record { table = P .table; small = P .small; brush = record { area = P .area; small = λ t. tf (sym t ∙ e) }; type = λ t. k }
 
+-- a brush made for an area and a type is what the rebuild is handed, and its picture after is the painted one
+pub area-may : {c kind : ℕ} {ws : List ℕ} {a : Area} {b : Brush} → Paintable c ws a → kind < kinds ws → FlatBrush a kind b → MayPaint c ws b
+area-may {c} {kind} {ws} P k F = flat-may (subst (λ (d : Area). Paintable c ws d) (sym (F .area)) P) (omega (arith, F .type)) (F .one)
+
+pub after-flat : {kind : ℕ} (ws : List ℕ) {a : Area} {b : Brush} → FlatBrush a kind b → goal ws b ≡ painted (pictureOf ws) a kind
+after-flat {kind} ws {a} {b} F = after-painted (pictureOf ws) b (F .one)
+    ∙ (ap {B = Picture} (λ (d : Area). painted (pictureOf ws) d (b .kind)) (F .area) ∙ ap {B = Picture} (painted (pictureOf ws) a) (F .type))
+
 pub bits-may : {c : ℕ} {ws : List ℕ} {b : Brush} → Paintable c ws (brushArea b) → Small (brushArea b) → b .bits ≡ true → MayPaint c ws b
 bits-may P s e = record { table = P .table; small = P .small; brush = record { area = P .area; small = λ t. s }; type = λ t. tf (sym e ∙ t) }
 
 pub painted-as : {c r : ℕ} {ws vs : List ℕ} {q s : Picture} → q ≡ s → PaintedTo c ws q vs r → PaintedTo c ws s vs r
 painted-as {c} {r} {ws} {vs} e P = subst (λ (p : Picture). PaintedTo c ws p vs r) e P
+
+-- ---- how many tiles
+-- a table that was made has so many
+pub tiles-of : {c r : ℕ} {ws vs : List ℕ} {q : Picture} → PaintedTo c ws q vs r → TilesAfter c ws q r
+tiles-of P = record { number = P .number; full = P .full }
+
+-- and so have the tiles of the rebuild
+pub tiles-as : {c r : ℕ} {ws vs : List ℕ} {p q : Picture} → p ≡ q → Built (width ws) (height ws) p c vs r → TilesAfter c ws q r
+tiles-as {c} {r} {ws} {vs} {p} {q} e B = subst (λ (s : Picture). TilesAfter c ws s r) e (record { number = λ u. built-number B u; full = B .full })
 
 -- ---- the contracts' `requires` can be met: the worked example is a table
 pub worked-table : IsTable 3 (table 3 4 2 2 (painted space (area 1 0 2 2) 1))

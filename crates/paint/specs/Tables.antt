@@ -9,7 +9,7 @@ use Rattle.plane.specs.Picture.{Picture, tiles, table}
 use Rattle.plane.specs.Words.{count, width, height, kinds, IsTable}
 use Rattle.plane.specs.Area.{AreaIn}
 use Rattle.paint.specs.declared.brush.Brush.{Brush}
-use Rattle.paint.specs.Brush.{BrushIn, goal}
+use Rattle.paint.specs.Brush.{BrushIn, brushArea, goal}
 use Rattle.paint.specs.Cover.{TooMany}
 
 -- the header is set, and all else stays
@@ -45,6 +45,17 @@ pub record Paintable (c : ℕ) (ws : List ℕ) (a : Area) : Type 0 where
   pub table : IsTable c ws
   pub small : c ≤ 3600
   pub area : AreaIn (width ws) (height ws) a
+
+-- the brush sets the area to the one type
+pub record FlatBrush (a : Area) (kind : ℕ) (b : Brush) : Type 0 where
+  pub area : brushArea b ≡ a
+  pub type : b .kind ≡ kind
+  pub one : b .bits ≡ false
+
+-- r is the number of tiles of the picture q, of the size of ws; or r and that number are above the room
+pub record TilesAfter (c : ℕ) (ws : List ℕ) (q : Picture) (r : ℕ) : Type 0 where
+  pub number : r ≤ c → r ≡ length (tiles (width ws) (height ws) q)
+  pub full : c < r → c < length (tiles (width ws) (height ws) q)
 
 -- r is the number of tiles of the picture q, and vs its table, of the size and types of ws; or r and that number are above the room
 pub record PaintedTo (c : ℕ) (ws : List ℕ) (q : Picture) (vs : List ℕ) (r : ℕ) : Type 0 where

@@ -2,6 +2,7 @@
 use crate::slots::find_back;
 use crate::slots::find_on;
 use plane::tile::Tile;
+use plane::words::less;
 use plane::words::nth_tile;
 use plane::words::wide;
 ghost use mathlib.Core.Path.{_≡_};
@@ -82,11 +83,11 @@ pub fn number_left(work: &[u16], n: usize, w: u16, h: u16, i: usize, x: u16, y: 
     65535
 }
 
-// The place of a column in a list by columns: two columns may share one, and then a guess is wrong, which costs time only.
+// The place of a column in a list by columns.
 pub fn column(x: u16) -> usize
-    ensures { λ r. ⌜ r < 2048 ⌝ }
+    ensures { λ r. ⌜ r < 4096 ⌝ }
 {
-    wide(x) % 2048
+    wide(x) % 4096
 }
 
 // Word k of tile i, of the first n; 65535 where there is no such tile.
@@ -115,7 +116,7 @@ pub fn guess(work: &mut [u16], n: usize, i: u16, k: usize, v: u16)
 pub fn guess_under(
     work: &mut [u16],
     n: usize,
-    starts: &[u16; 2048],
+    starts: &[u16; 4096],
     i: u16,
     j: u16,
     right: u16,
@@ -149,30 +150,53 @@ pub fn guess_lower(work: &[u16], n: usize, i: u16, under: u16, bottom: u16) -> u
     under
 }
 
-// Guesses at the stitches of tile j, and at those that lead to it. starts and ends have the last tile so far
-// that begins or ends at a column, and under the last tile under the tile before.
-pub fn guess_at(
-    work: &mut [u16],
-    n: usize,
-    starts: &mut [u16; 2048],
-    ends: &mut [u16; 2048],
-    under: u16,
-    j: u16,
-) -> u16
+// The tile left of a tile that begins at row y and lies on tile i: up the left side of tile i to row y.
+pub fn guess_left(work: &[u16], n: usize, i: u16, y: u16) -> u16
+    requires { ⌜ 4 + 9 * n ≤ length (now work) ⌝ }
+{
+    let mut k = peek(work, n, i, 6);
+    let mut top = peek(work, n, k, 3);
+    while top <= y {
+        k = peek(work, n, k, 8);
+        let e = peek(work, n, k, 3);
+        if e <= top {
+            return k;
+        }
+        top = e;
+    }
+    k
+}
+
+// The tile left of tile t, of number j: the tile before, if it ends where t begins, or one beside tile i, which is under t.
+pub fn guess_beside(work: &[u16], n: usize, i: u16, j: u16, t: Tile) -> u16
+    requires { ⌜ 4 + 9 * n ≤ length (now work) ⌝ }
+{
+    let before = less(j, 1);
+    let right = peek(work, n, before, 2);
+    let bottom = peek(work, n, before, 1);
+    let meets = (right == t.left) & (bottom == t.bottom);
+    if meets {
+        return before;
+    }
+    guess_left(work, n, i, t.bottom)
+}
+
+// Guesses at the stitches of tile j, and at those that lead to it. starts has the last tile so far that begins at a column, and
+// under is the last tile under the tile before.
+pub fn guess_at(work: &mut [u16], n: usize, starts: &mut [u16; 4096], under: u16, j: u16) -> u16
     requires { ⌜ (4 + 9 * n ≤ length (now work)) × (j < n) ⌝ }
     ensures { λ _. ⌜ SameTiles (now (work .entry)) (now (work .exit)) ⌝ }
 {
     let t = nth_tile(work, wide(j));
     let l = column(t.left);
     let r = column(t.right);
-    let m = ends[l];
     let k = guess_lower(work, n, starts[l], under, t.bottom);
+    let m = guess_beside(work, n, k, j, t);
     guess(work, n, j, 5, k);
     guess(work, n, j, 6, m);
     guess(work, n, j, 7, starts[r]);
     guess(work, n, m, 7, j);
     starts[l] = j;
-    ends[r] = j;
     guess_under(work, n, starts, k, j, t.right)
 }
 
@@ -181,12 +205,11 @@ pub fn guess_links(work: &mut [u16], n: usize)
     requires { ⌜ (4 + 9 * n ≤ length (now work)) × (n ≤ 65535) ⌝ }
     ensures { λ _. ⌜ SameTiles (now (work .entry)) (now (work .exit)) ⌝ }
 {
-    let mut starts = [65535u16; 2048];
-    let mut ends = [65535u16; 2048];
+    let mut starts = [65535u16; 4096];
     let mut under = 65535;
     let mut j = 0;
     while j < n {
-        under = guess_at(work, n, &mut starts, &mut ends, under, j as u16);
+        under = guess_at(work, n, &mut starts, under, j as u16);
         j += 1;
     }
 }

@@ -11,7 +11,7 @@ ghost use lib.ListN.{length, replicate};
 ghost use Rattle.plane.specs.Picture.{table, space, painted, stamped};
 ghost use Rattle.plane.specs.Words.{count, kinds, pictureOf};
 ghost use Rattle.paint.specs.Brush.{Small, Given, goal};
-ghost use Rattle.paint.specs.Tables.{Headed, Cleared, Repainted, MayPaint, Paintable, PaintedTo, TakenOver};
+ghost use Rattle.paint.specs.Tables.{Headed, Cleared, Repainted, MayPaint, Paintable, FlatBrush, TilesAfter, PaintedTo, TakenOver};
 
 // Writes the header.
 pub fn put_header(work: &mut [u16], n: usize, w: u16, h: u16, k: u16)
@@ -111,13 +111,11 @@ pub fn paint_over(t: &[u16], b: Brush, work: &mut [u16], room: usize) -> usize
     repaint(t, b, work, room)
 }
 
-// The same with an area set to a type.
-pub fn paint_into(t: &[u16], a: Area, kind: u16, work: &mut [u16], room: usize) -> usize
-    requires { ⌜ Paintable room (now t) a ⌝ }
-    requires { ⌜ (kind < kinds (now t)) × (length (now work) ≡ length (now t)) ⌝ }
-    ensures { λ r. ⌜ PaintedTo room (now (t .entry)) (painted (pictureOf (now (t .entry))) a kind) (now (work .exit)) r ⌝ }
+// An area of one type.
+fn flat_brush(a: Area, kind: u16) -> Brush
+    ensures { λ r. ⌜ FlatBrush a kind r ⌝ }
 {
-    let b = Brush {
+    Brush {
         x1: a.x1,
         y1: a.y1,
         x2: a.x2,
@@ -125,8 +123,27 @@ pub fn paint_into(t: &[u16], a: Area, kind: u16, work: &mut [u16], room: usize) 
         kind,
         bits: false,
         rows: [0u64; 48],
-    };
+    }
+}
+
+// The same with an area set to a type.
+pub fn paint_into(t: &[u16], a: Area, kind: u16, work: &mut [u16], room: usize) -> usize
+    requires { ⌜ Paintable room (now t) a ⌝ }
+    requires { ⌜ (kind < kinds (now t)) × (length (now work) ≡ length (now t)) ⌝ }
+    ensures { λ r. ⌜ PaintedTo room (now (t .entry)) (painted (pictureOf (now (t .entry))) a kind) (now (work .exit)) r ⌝ }
+{
+    let b = flat_brush(a, kind);
     paint_over(t, b, work, room)
+}
+
+// How many tiles that would be. It costs less, since the working slice gets no table.
+pub fn tiles_after(t: &[u16], a: Area, kind: u16, work: &mut [u16], room: usize) -> usize
+    requires { ⌜ Paintable room (now t) a ⌝ }
+    requires { ⌜ (kind < kinds (now t)) × (length (now work) ≡ length (now t)) ⌝ }
+    ensures { λ r. ⌜ TilesAfter room (now (t .entry)) (painted (pictureOf (now (t .entry))) a kind) r ⌝ }
+{
+    let b = flat_brush(a, kind);
+    rebuild(t, b, work, room)
 }
 
 // The same with an area of at most 48 by 48 squares set to its bits.

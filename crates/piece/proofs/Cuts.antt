@@ -64,6 +64,19 @@ clip-span o {lo} {hi} {a} {b} l m n e f = (rw (e, f) (ordered lo hi o a b n), rw
     bounded : (lo hi o a : ℕ) → lo ≤ hi → hi ≤ 82 → clipped lo hi o a ≤ 82
     bounded lo hi o a l m = omega arith
 
+-- a tile below the part that is cut out, and one above it
+pub tile-below : (lo hi ox oy : ℕ) (t : Tile) {m : List ℕ} → lo ≤ hi → t .top + 33 ≤ oy + lo → FilledArea (t .kind) (clippedTile lo hi ox oy t) m m
+tile-below lo hi ox oy t {m} s u = area-empty (t .kind) (clippedTile lo hi ox oy t) m (λ x y i. none (t .bottom) (t .top) y (i .low) (i .high) u)
+  where
+    none : (b e y : ℕ) → clipped lo hi oy b ≤ y → y < clipped lo hi oy e → e + 33 ≤ oy + lo → ⊥
+    none b e y p q r = omega (arith, p, q, r, s)
+
+pub tile-above : (lo hi ox oy : ℕ) (t : Tile) {m : List ℕ} → lo ≤ hi → oy + hi ≤ t .bottom + 33 → FilledArea (t .kind) (clippedTile lo hi ox oy t) m m
+tile-above lo hi ox oy t {m} s u = area-empty (t .kind) (clippedTile lo hi ox oy t) m (λ x y i. none (t .bottom) (t .top) y (i .low) (i .high) u)
+  where
+    none : (b e y : ℕ) → clipped lo hi oy b ≤ y → y < clipped lo hi oy e → oy + hi ≤ b + 33 → ⊥
+    none b e y p q r = omega (arith, p, q, r, s)
+
 -- a tile of which nothing is left
 pub clip-none : (lo hi ox oy : ℕ) (t : Tile) (m : List ℕ) {x1 x2 : ℕ} → x1 ≡ clipped lo hi ox (t .left) → x2 ≡ clipped lo hi ox (t .right) → x2 ≤ x1 → FilledArea (t .kind) (clippedTile lo hi ox oy t) m m
 clip-none lo hi ox oy t m e f l =

@@ -81,7 +81,7 @@ module _ (ks : List ℕ) (t : Turn) (f : Forward t) (at : ℕ) (g : 83 ≤ at) (
       let j : at - e .wm + e .wm - e .wp ≡ at = omega arith in
       n .back (sym (y .0) ∙ ap (λ m. getD ks m 0) i) (sym (y .1) ∙ ap (λ m. getD ks m 0) j))
 
-  across-none : (q : ℕ) → across ks t at r q ≡ false
+  pub across-none : (q : ℕ) → across ks t at r q ≡ false
   unfolding across
   across-none q =
       rw (

@@ -9,6 +9,7 @@ pub mod Cuts
 pub mod Marking
 pub mod Exchange
 pub mod Edges
+pub mod Chains
 pub mod Views
 pub mod Bits
 pub mod Remarks

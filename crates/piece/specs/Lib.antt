@@ -4,6 +4,7 @@ pub mod Fill
 pub mod Waits
 pub mod Cut
 pub mod Edge
+pub mod Chains
 pub mod Near
 pub mod Remark
 pub mod Rows

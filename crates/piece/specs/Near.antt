@@ -16,6 +16,7 @@ use Rattle.piece.specs.Edge.{Steps, goesHit, turn}
 -- n rules of a list, each with two types, and d and ce at most 16
 pub record Ruled (ws : List ℕ) (n : ℕ) : Type 0 where
   pub sized : 8 * n ≤ length ws
+  pub few : n ≤ 512
   pub deep : (i : ℕ) → i < n → ruleAt ws i .d ≤ 16
   pub side : (i : ℕ) → i < n → ruleAt ws i .ce ≤ 16
   pub apart : (i : ℕ) → i < n → Apart (ruleAt ws i)

@@ -41,11 +41,17 @@ fn clip(a: u16, o: usize, lo: usize, hi: usize) -> usize
     b - o
 }
 
-// Sets the part of the local picture that the tile holds.
+// Sets the part of the local picture that the tile holds. Most tiles lie below it or above it.
 fn fill_tile(kinds: &mut [u8; 6724], a: Tile, ox: usize, oy: usize, lo: usize, hi: usize)
     requires { ⌜ (length (now kinds) ≡ 6724) × Clips lo hi ox oy × Boxed 4096 4096 16 a ⌝ }
     ensures { λ _. ⌜ FilledArea (a .kind) (clippedTile lo hi ox oy a) (now (kinds .entry)) (now (kinds .exit)) ⌝ }
 {
+    if wide(a.top) + 33 <= oy + lo {
+        return;
+    }
+    if oy + hi <= wide(a.bottom) + 33 {
+        return;
+    }
     let x1 = clip(a.left, ox, lo, hi);
     let x2 = clip(a.right, ox, lo, hi);
     if x2 <= x1 {

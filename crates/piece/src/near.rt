@@ -2,12 +2,16 @@
 use crate::edge::Turn;
 use crate::edge::kind_at;
 use crate::edge::mark_rule;
+use plane::words::least;
+use plane::words::most;
+use plane::words::wide;
 use rules::rule::Rule;
 use rules::rule::rule_at;
 ghost use mathlib.Core.Path.{_≡_};
 ghost use Prim.Native.Nat.{ℕ, _+_, _-_, _*_, _≤_, _<_};
 ghost use lib.ListN.{length, getD};
 ghost use Rattle.rules.specs.Words.{ruleAt};
+ghost use Rattle.piece.specs.Chains.{cell, Linked, Chained};
 ghost use Rattle.piece.specs.Edge.{Marked, Local, Steps};
 ghost use Rattle.piece.specs.Near.{Ruled, hitFrom, across, acrossAll, edgesAt, edgesTo, Forward, Still, sweeps};
 
@@ -71,6 +75,37 @@ fn mark_across(kinds: &[u8; 6724], marks: &mut [u8; 6724], r: Rule, t: Turn, at:
     mark_from(kinds, marks, r, false, b, at);
 }
 
+// The cell of a pair of types, whichever of them comes first. Two pairs may share one: that costs time only.
+fn cell_of(a: u16, b: u16) -> usize
+    ensures { λ r. ⌜ (r ≡ cell a b) × (r < 256) ⌝ }
+{
+    (16 * wide(least(a, b)) + wide(most(a, b))) % 256
+}
+
+// Puts rule i before the others of its cell.
+fn chain_rule(rules: &[u16], chains: &mut [u16; 768], i: usize)
+    requires { ⌜ (8 * i + 8 ≤ length (now rules)) × (i < 512) × (length (now chains) ≡ 768) ⌝ }
+    ensures { λ _. ⌜ Linked (now (rules .entry)) i (now (chains .entry)) (now (chains .exit)) ⌝ }
+{
+    let k = cell_of(rules[8 * i], rules[8 * i + 1]);
+    chains[256 + i] = chains[k];
+    chains[k] = i as u16;
+}
+
+// The rules by cells: place k has the first rule of cell k, and place 256 + i the next of rule i's cell; 65535 where there is none.
+fn chain_rules(rules: &[u16], used: usize) -> [u16; 768]
+    requires { ⌜ (8 * used ≤ length (now rules)) × (used ≤ 512) ⌝ }
+    ensures { λ r. ⌜ Chained (now (rules .entry)) used 0 r ⌝ }
+{
+    let mut chains = [65535u16; 768];
+    let mut i = used;
+    while 0 < i {
+        i -= 1;
+        chain_rule(rules, &mut chains, i);
+    }
+    chains
+}
+
 // The same for rule i, past a rule of another pair of types than a and b, which stand at the edge.
 fn mark_nth(
     kinds: &[u8; 6724],
@@ -96,25 +131,28 @@ fn mark_nth(
     }
 }
 
-// The same for the used rules.
+// The same for the used rules: those of the pair's cell, one after the other.
 fn mark_pair(
     kinds: &[u8; 6724],
     marks: &mut [u8; 6724],
     rules: &[u16],
     used: usize,
+    chains: &[u16; 768],
     t: Turn,
     at: usize,
     a: u16,
     b: u16,
 )
+    requires { ⌜ Chained (now rules) used 0 (now chains) ⌝ }
     requires { ⌜ Local (now kinds) (now marks) × Ruled (now rules) used × Forward t × (83 ≤ at) × (at < 6724) ⌝ }
     requires { ⌜ (a ≡ getD (now kinds) at 0) × (b ≡ getD (now kinds) (at - t .wp) 0) ⌝ }
     ensures { λ _. ⌜ Marked (acrossAll (now (kinds .entry)) (now (rules .entry)) used t at) (now (marks .entry)) (now (marks .exit)) ⌝ }
 {
-    let mut i: usize = 0;
+    let k = cell_of(a, b);
+    let mut i = wide(chains[k]);
     while i < used {
         mark_nth(kinds, marks, rules, i, t, at, a, b);
-        i += 1;
+        i = wide(chains[256 + i]);
     }
 }
 
@@ -124,9 +162,11 @@ fn mark_side(
     marks: &mut [u8; 6724],
     rules: &[u16],
     used: usize,
+    chains: &[u16; 768],
     t: Turn,
     at: usize,
 )
+    requires { ⌜ Chained (now rules) used 0 (now chains) ⌝ }
     requires { ⌜ Local (now kinds) (now marks) × Ruled (now rules) used × Forward t × (83 ≤ at) × (at < 6724) ⌝ }
     ensures { λ _. ⌜ Marked (acrossAll (now (kinds .entry)) (now (rules .entry)) used t at) (now (marks .entry)) (now (marks .exit)) ⌝ }
 {
@@ -135,11 +175,19 @@ fn mark_side(
     if a == b {
         return;
     }
-    mark_pair(kinds, marks, rules, used, t, at, a, b);
+    mark_pair(kinds, marks, rules, used, chains, t, at, a, b);
 }
 
 // From the edges left of `at` and below it, past a square of the type of both neighbours.
-fn mark_at(kinds: &[u8; 6724], marks: &mut [u8; 6724], rules: &[u16], used: usize, at: usize)
+fn mark_at(
+    kinds: &[u8; 6724],
+    marks: &mut [u8; 6724],
+    rules: &[u16],
+    used: usize,
+    chains: &[u16; 768],
+    at: usize,
+)
+    requires { ⌜ Chained (now rules) used 0 (now chains) ⌝ }
     requires { ⌜ Local (now kinds) (now marks) × Ruled (now rules) used × (83 ≤ at) × (at < 6724) ⌝ }
     ensures { λ _. ⌜ Marked (edgesAt (now (kinds .entry)) (now (rules .entry)) used at) (now (marks .entry)) (now (marks .exit)) ⌝ }
 {
@@ -150,8 +198,8 @@ fn mark_at(kinds: &[u8; 6724], marks: &mut [u8; 6724], rules: &[u16], used: usiz
     if alike {
         return;
     }
-    mark_side(kinds, marks, rules, used, RIGHT_UP, at);
-    mark_side(kinds, marks, rules, used, UP_LEFT, at);
+    mark_side(kinds, marks, rules, used, chains, RIGHT_UP, at);
+    mark_side(kinds, marks, rules, used, chains, UP_LEFT, at);
 }
 
 // From all edges at the n indexes from `from` on.
@@ -160,15 +208,17 @@ fn mark_range(
     marks: &mut [u8; 6724],
     rules: &[u16],
     used: usize,
+    chains: &[u16; 768],
     from: usize,
     n: usize,
 )
+    requires { ⌜ Chained (now rules) used 0 (now chains) ⌝ }
     requires { ⌜ Local (now kinds) (now marks) × Ruled (now rules) used × (83 ≤ from) × (from + n < 6724) ⌝ }
     ensures { λ _. ⌜ Marked (edgesTo (now (kinds .entry)) (now (rules .entry)) used from n) (now (marks .entry)) (now (marks .exit)) ⌝ }
 {
     let mut k: usize = 0;
     while k < n {
-        mark_at(kinds, marks, rules, used, from + k);
+        mark_at(kinds, marks, rules, used, chains, from + k);
         k += 1;
     }
 }
@@ -185,5 +235,6 @@ pub fn mark_near(
     requires { ⌜ Local (now kinds) (now marks) × Ruled (now rules) used × Still (now kinds) from to ⌝ }
     ensures { λ _. ⌜ Marked (sweeps (now (kinds .entry)) (now (rules .entry)) used) (now (marks .entry)) (now (marks .exit)) ⌝ }
 {
-    mark_range(kinds, marks, rules, used, from, to - from);
+    let chains = chain_rules(rules, used);
+    mark_range(kinds, marks, rules, used, &chains, from, to - from);
 }

@@ -89,20 +89,19 @@ pub fn in_order(t: &[u16]) -> bool
     true
 }
 
-// Are the words after the last tile zero?
+// Are the words after the last tile zero? Each is looked at, with no way out in between, so that several go at a time.
 pub fn zero_after(t: &[u16]) -> bool
     requires { ⌜ Sized (now t) ⌝ }
     ensures { λ r. ⌜ Says r (ZeroAfter (now (t .entry))) ⌝ }
 {
     let n = t[0] as usize;
+    let mut all = true;
     let mut m: usize = 4 + 9 * n;
     while m < t.len() {
-        if t[m] != 0 {
-            return false;
-        }
+        all = all & (t[m] == 0);
         m += 1;
     }
-    true
+    all
 }
 
 // Does tile s hold (x,y)?

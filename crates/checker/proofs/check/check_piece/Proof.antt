@@ -1,7 +1,7 @@
 -- What each step is handed follows from the piece to check; the ways out, no room for waiting or for errors and both done, are one law each.
-use native.Mathlib.Omega.{arith}
+use Rattle.checker.proofs.OnePiece.{piece-words, piece-block, waiting-paintable, waiting-kinds, piece-errors, as-waiting, as-waiting-tiles, piece-unwaited, piece-unmarked, piece-checked}
 use mathlib.Core.Path.{sym, _∙_}
-use Rattle.checker.proofs.OnePiece.{piece-words, piece-block, waiting-paintable, waiting-kinds, piece-errors, as-waiting, piece-unwaited, piece-unmarked, piece-checked}
+use native.Mathlib.Omega.{arith}
 use borrow.Author.Needs.{needs}
 use Rattle.checker.proofs.check.check_piece.Statement.{statement}
 use Rattle.checker.proofs.check.check_piece.Tie as tie
@@ -18,8 +18,8 @@ shared-slice-read-near-area-2 c = omega (arith, piece-words (c .before .before .
 near-area-requires : tie.Need-near-area-requires
 near-area-requires c κs = (piece-block (c .before .before .before .before .before .before .before .before .pre), omega arith)
 
-paint-into-requires : tie.Need-paint-into-requires
-paint-into-requires c κs = (waiting-paintable (c .before .before .before .before .before .before .before .before .before .before .before .pre) (c .before .before .before .before .before .room-in .ensures) (c .before .before .near-area .ensures), (omega (arith, waiting-kinds (c .before .before .before .before .before .before .before .before .before .before .before .pre)), c .before .before .before .before .before .before .before .before .before .before .before .pre .working ∙ sym (c .before .before .before .before .before .before .before .before .before .before .before .pre .fit .lengths .tables .waiting)))
+tiles-after-requires : tie.Need-tiles-after-requires
+tiles-after-requires c κs = (waiting-paintable (c .before .before .before .before .before .before .before .before .before .before .before .pre) (c .before .before .before .before .before .room-in .ensures) (c .before .before .near-area .ensures), (omega (arith, waiting-kinds (c .before .before .before .before .before .before .before .before .before .before .before .pre)), c .before .before .before .before .before .before .before .before .before .before .before .pre .working ∙ sym (c .before .before .before .before .before .before .before .before .before .before .before .pre .fit .lengths .tables .waiting)))
 
 same-length : tie.Need-same-length
 same-length c = search needs
@@ -28,10 +28,10 @@ same-length-2 : tie.Need-same-length-2
 same-length-2 c = search needs
 
 returns : tie.Need-returns
-returns c = piece-unwaited (c .before .before .before .before .before .before .before .before .before .before .before .before .before .before .before .pre) (c .before .before .before .before .before .before .before .before .before .room-in .ensures) (as-waiting (c .before .before .before .before .before .before .before .before .before .before .before .before .before .before .before .pre) (c .before .before .before .before .before .before .near-area .ensures) (c .before .before .before .paint-into .ensures)) (c .if1 .taken)
+returns c = piece-unwaited (c .before .before .before .before .before .before .before .before .before .before .before .before .before .before .before .pre) (c .before .before .before .before .before .before .before .before .before .room-in .ensures) (as-waiting-tiles (c .before .before .before .before .before .before .before .before .before .before .before .before .before .before .before .pre) (c .before .before .before .before .before .before .near-area .ensures) (c .before .before .before .tiles-after .ensures)) (c .if1 .taken)
 
 mark-errors-requires : tie.Need-mark-errors-requires
-mark-errors-requires c κs = piece-errors (c .before .before .before .before .before .before .before .before .before .before .before .before .before .before .before .before .before .pre) (c .before .before .before .before .before .paint-into .kept .1 .1 .1 .0)
+mark-errors-requires c κs = piece-errors (c .before .before .before .before .before .before .before .before .before .before .before .before .before .before .before .before .before .pre) (c .before .before .before .before .before .tiles-after .kept .1 .1 .1 .0)
 
 same-length-3 : tie.Need-same-length-3
 same-length-3 c = search needs
@@ -45,11 +45,11 @@ same-length-5 c = search needs
 returns-2 : tie.Need-returns-2
 returns-2 c = piece-unmarked (c .before .before .before .before .before .before .before .before .before .before .before .before .before .before .before .before .before .before .before .before .before .before .before .pre) (c .before .before .before .before .before .mark-errors .ensures) (c .if2 .taken)
 
-paint-into-requires-2 : tie.Need-paint-into-requires-2
-paint-into-requires-2 c κs = (waiting-paintable (c .before .before .before .before .before .before .before .before .before .before .before .before .before .before .before .before .before .before .before .before .before .before .before .before .before .pre) (c .before .before .before .before .before .before .before .before .before .before .before .before .before .before .before .before .before .before .before .room-in .ensures) (c .before .before .before .before .before .before .before .before .before .before .before .before .before .before .before .before .near-area .ensures), (omega (arith, waiting-kinds (c .before .before .before .before .before .before .before .before .before .before .before .before .before .before .before .before .before .before .before .before .before .before .before .before .before .pre)), c .before .before .before .before .before .before .before .mark-errors .kept .1 .1 .0 ∙ (c .before .before .before .before .before .before .before .before .before .before .before .before .before .paint-into .kept .1 .1 .1 .0 ∙ (c .before .before .before .before .before .before .before .before .before .before .before .before .before .before .before .before .before .before .before .before .before .before .before .before .before .pre .working ∙ sym (c .before .before .before .before .before .before .before .before .before .before .before .before .before .before .before .before .before .before .before .before .before .before .before .before .before .pre .fit .lengths .tables .waiting)))))
+paint-into-requires : tie.Need-paint-into-requires
+paint-into-requires c κs = (waiting-paintable (c .before .before .before .before .before .before .before .before .before .before .before .before .before .before .before .before .before .before .before .before .before .before .before .before .before .pre) (c .before .before .before .before .before .before .before .before .before .before .before .before .before .before .before .before .before .before .before .room-in .ensures) (c .before .before .before .before .before .before .before .before .before .before .before .before .before .before .before .before .near-area .ensures), (omega (arith, waiting-kinds (c .before .before .before .before .before .before .before .before .before .before .before .before .before .before .before .before .before .before .before .before .before .before .before .before .before .pre)), c .before .before .before .before .before .before .before .mark-errors .kept .1 .1 .0 ∙ (c .before .before .before .before .before .before .before .before .before .before .before .before .before .tiles-after .kept .1 .1 .1 .0 ∙ (c .before .before .before .before .before .before .before .before .before .before .before .before .before .before .before .before .before .before .before .before .before .before .before .before .before .pre .working ∙ sym (c .before .before .before .before .before .before .before .before .before .before .before .before .before .before .before .before .before .before .before .before .before .before .before .before .before .pre .fit .lengths .tables .waiting)))))
 
-take-over-requires : tie.Need-take-over-requires
-take-over-requires c κs = c .before .before .before .before .paint-into2 .kept .1 .1 .1 .0 ∙ (c .before .before .before .before .before .before .before .before .before .before .before .before .mark-errors .kept .1 .1 .0 ∙ (c .before .before .before .before .before .before .before .before .before .before .before .before .before .before .before .before .before .before .paint-into .kept .1 .1 .1 .0 ∙ (c .before .before .before .before .before .before .before .before .before .before .before .before .before .before .before .before .before .before .before .before .before .before .before .before .before .before .before .before .before .before .pre .working ∙ sym (c .before .before .before .before .before .before .before .before .before .before .before .before .before .before .before .before .before .before .before .before .before .before .before .before .before .before .before .before .before .before .pre .fit .lengths .tables .waiting))))
+copy-all-requires : tie.Need-copy-all-requires
+copy-all-requires c κs = sym (c .before .before .before .before .paint-into .kept .1 .1 .1 .0 ∙ (c .before .before .before .before .before .before .before .before .before .before .before .before .mark-errors .kept .1 .1 .0 ∙ (c .before .before .before .before .before .before .before .before .before .before .before .before .before .before .before .before .before .before .tiles-after .kept .1 .1 .1 .0 ∙ (c .before .before .before .before .before .before .before .before .before .before .before .before .before .before .before .before .before .before .before .before .before .before .before .before .before .before .before .before .before .before .pre .working ∙ sym (c .before .before .before .before .before .before .before .before .before .before .before .before .before .before .before .before .before .before .before .before .before .before .before .before .before .before .before .before .before .before .pre .fit .lengths .tables .waiting)))))
 
 same-length-6 : tie.Need-same-length-6
 same-length-6 c = search needs
@@ -61,7 +61,7 @@ same-length-8 : tie.Need-same-length-8
 same-length-8 c = search needs
 
 returns-3 : tie.Need-returns-3
-returns-3 c = piece-checked (c .before .before .before .before .before .before .before .before .before .before .before .before .before .before .before .before .before .before .before .before .before .before .before .before .before .before .before .before .before .before .before .before .before .before .before .pre) (c .before .before .before .before .before .before .before .before .before .before .before .before .before .before .before .before .before .before .before .before .before .before .before .before .before .before .before .before .before .room-in .ensures) (c .before .before .before .before .before .before .before .before .before .before .before .before .before .before .before .before .before .mark-errors .ensures) (c .before .before .before .before .before .before .before .before .before .before .before .before .if2 .left) (as-waiting (c .before .before .before .before .before .before .before .before .before .before .before .before .before .before .before .before .before .before .before .before .before .before .before .before .before .before .before .before .before .before .before .before .before .before .before .pre) (c .before .before .before .before .before .before .before .before .before .before .before .before .before .before .before .before .before .before .before .before .before .before .before .before .before .before .near-area .ensures) (c .before .before .before .before .before .before .before .before .before .before .before .before .before .before .before .before .before .before .before .before .before .before .before .paint-into .ensures)) (c .before .before .before .before .before .before .before .before .before .before .before .before .before .before .before .before .before .before .before .before .if1 .left) (as-waiting (c .before .before .before .before .before .before .before .before .before .before .before .before .before .before .before .before .before .before .before .before .before .before .before .before .before .before .before .before .before .before .before .before .before .before .before .pre) (c .before .before .before .before .before .before .before .before .before .before .before .before .before .before .before .before .before .before .before .before .before .before .before .before .before .before .near-area .ensures) (c .before .before .before .before .before .before .before .before .before .paint-into2 .ensures)) (c .before .before .before .before .take-over .ensures .0)
+returns-3 c = piece-checked (c .before .before .before .before .before .before .before .before .before .before .before .before .before .before .before .before .before .before .before .before .before .before .before .before .before .before .before .before .before .before .before .before .before .pre) (c .before .before .before .before .before .before .before .before .before .before .before .before .before .before .before .before .before .before .before .before .before .before .before .before .before .before .before .room-in .ensures) (c .before .before .before .before .before .before .before .before .before .before .before .before .before .before .before .mark-errors .ensures) (c .before .before .before .before .before .before .before .before .before .before .if2 .left) (as-waiting-tiles (c .before .before .before .before .before .before .before .before .before .before .before .before .before .before .before .before .before .before .before .before .before .before .before .before .before .before .before .before .before .before .before .before .before .pre) (c .before .before .before .before .before .before .before .before .before .before .before .before .before .before .before .before .before .before .before .before .before .before .before .before .near-area .ensures) (c .before .before .before .before .before .before .before .before .before .before .before .before .before .before .before .before .before .before .before .before .before .tiles-after .ensures)) (c .before .before .before .before .before .before .before .before .before .before .before .before .before .before .before .before .before .before .if1 .left) (as-waiting (c .before .before .before .before .before .before .before .before .before .before .before .before .before .before .before .before .before .before .before .before .before .before .before .before .before .before .before .before .before .before .before .before .before .pre) (c .before .before .before .before .before .before .before .before .before .before .before .before .before .before .before .before .before .before .before .before .before .before .before .before .near-area .ensures) (c .before .before .before .before .before .before .before .paint-into .ensures)) (c .before .before .copy-all .ensures)
 
 pub check-piece-spec : {M : Type 1} → statement M
 check-piece-spec =
@@ -71,7 +71,7 @@ check-piece-spec =
     shared-slice-read-near-area
     shared-slice-read-near-area-2
     near-area-requires
-    paint-into-requires
+    tiles-after-requires
     same-length
     same-length-2
     returns
@@ -80,8 +80,8 @@ check-piece-spec =
     same-length-4
     same-length-5
     returns-2
-    paint-into-requires-2
-    take-over-requires
+    paint-into-requires
+    copy-all-requires
     same-length-6
     same-length-7
     same-length-8

@@ -1,7 +1,7 @@
 -- Only guesses are written, one behind the other.
+use Rattle.paint.proofs.Stitches.{same-then}
 use native.Mathlib.Omega.{arith}
 use borrow.Author.Needs.{needs}
-use Rattle.paint.proofs.Stitches.{same-then}
 use Rattle.paint.proofs.stitch.guess_at.Statement.{statement}
 use Rattle.paint.proofs.stitch.guess_at.Tie as tie
 
@@ -17,12 +17,6 @@ column-requires c κs = search needs
 column-requires-2 : tie.Need-column-requires-2
 column-requires-2 c κs = search needs
 
-mul-m : tie.Need-mul-m
-mul-m c = search needs
-
-element-copy-out-m : tie.Need-element-copy-out-m
-element-copy-out-m c = search needs
-
 mul-guess-lower : tie.Need-mul-guess-lower
 mul-guess-lower c = search needs
 
@@ -31,6 +25,9 @@ element-copy-out-guess-lower c = search needs
 
 guess-lower-requires : tie.Need-guess-lower-requires
 guess-lower-requires c κs = search needs
+
+guess-beside-requires : tie.Need-guess-beside-requires
+guess-beside-requires c κs = search needs
 
 guess-requires : tie.Need-guess-requires
 guess-requires c κs = search needs
@@ -48,7 +45,7 @@ guess-requires-3 : tie.Need-guess-requires-3
 guess-requires-3 c κs = search needs
 
 guess-requires-4 : tie.Need-guess-requires-4
-guess-requires-4 c κs = search needs
+guess-requires-4 c κs = (omega (arith, c .before .before .before .guess3 .ensures .long, c .before .before .before .before .before .before .before .before .guess2 .ensures .long, c .before .before .before .before .before .before .before .before .before .before .before .before .guess .ensures .long, c .before .before .before .before .before .before .before .before .before .before .before .before .before .before .before .before .before .before .before .before .before .before .before .before .before .pre .0), omega arith, omega arith)
 
 mul-starts : tie.Need-mul-starts
 mul-starts c = search needs
@@ -56,14 +53,8 @@ mul-starts c = search needs
 element-write-starts : tie.Need-element-write-starts
 element-write-starts c = search needs
 
-mul-ends : tie.Need-mul-ends
-mul-ends c = search needs
-
-element-write-ends : tie.Need-element-write-ends
-element-write-ends c = search needs
-
 guess-under-requires : tie.Need-guess-under-requires
-guess-under-requires c κs = omega (arith, c .before .before .before .before .guess4 .ensures .long, c .before .before .before .before .before .before .before .before .guess3 .ensures .long, c .before .before .before .before .before .before .before .before .before .before .before .before .before .guess2 .ensures .long, c .before .before .before .before .before .before .before .before .before .before .before .before .before .before .before .before .before .guess .ensures .long, c .before .before .before .before .before .before .before .before .before .before .before .before .before .before .before .before .before .before .before .before .before .before .before .before .before .before .before .before .before .pre .0)
+guess-under-requires c κs = omega (arith, c .before .before .before .before .guess4 .ensures .long, c .before .before .before .before .before .before .before .before .guess3 .ensures .long, c .before .before .before .before .before .before .before .before .before .before .before .before .before .guess2 .ensures .long, c .before .before .before .before .before .before .before .before .before .before .before .before .before .before .before .before .before .guess .ensures .long, c .before .before .before .before .before .before .before .before .before .before .before .before .before .before .before .before .before .before .before .before .before .before .before .before .before .before .before .before .before .before .pre .0)
 
 same-length : tie.Need-same-length
 same-length c = search needs
@@ -79,11 +70,10 @@ guess-at-spec =
     nth-tile-requires
     column-requires
     column-requires-2
-    mul-m
-    element-copy-out-m
     mul-guess-lower
     element-copy-out-guess-lower
     guess-lower-requires
+    guess-beside-requires
     guess-requires
     guess-requires-2
     mul-guess
@@ -92,8 +82,6 @@ guess-at-spec =
     guess-requires-4
     mul-starts
     element-write-starts
-    mul-ends
-    element-write-ends
     guess-under-requires
     same-length
     returns)

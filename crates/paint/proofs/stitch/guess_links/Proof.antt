@@ -1,18 +1,18 @@
 -- Only guesses are written, tile by tile.
-use Prim.Native.Nat.{_-_}
-use native.Mathlib.Omega.{arith}
-use borrow.Author.Needs.{needs}
-use Rattle.plane.specs.Picture.{starts}
-use Rattle.paint.specs.Stitch.{SameTiles}
 use Rattle.paint.proofs.Stitches.{same-none, same-then}
+use Rattle.paint.specs.Stitch.{SameTiles}
+use Rattle.plane.specs.Picture.{starts}
+use native.Mathlib.Omega.{arith}
+use Prim.Native.Nat.{_-_}
+use borrow.Author.Needs.{needs}
 use Rattle.paint.proofs.stitch.guess_links.Statement.{statement}
 use Rattle.paint.proofs.stitch.guess_links.Tie as tie
 
 abbrev Inv-loop : tie.InvT-loop
-Inv-loop work₀ n starts₀ ends₀ under₀ j₀ work starts ends under j = SameTiles work₀ work
+Inv-loop work₀ n starts₀ under₀ j₀ work starts under j = SameTiles work₀ work
 
 abbrev μ-loop : tie.MeasureT-loop
-μ-loop work₀ n starts₀ ends₀ under₀ j₀ work starts ends under j = n - j
+μ-loop work₀ n starts₀ under₀ j₀ work starts under j = n - j
 
 loop-holds : tie.Need-loop-holds Inv-loop μ-loop
 loop-holds c = same-none
@@ -21,7 +21,7 @@ cast-guess-at : tie.Need-cast-guess-at Inv-loop μ-loop
 cast-guess-at c = search needs
 
 guess-at-requires : tie.Need-guess-at-requires Inv-loop μ-loop
-guess-at-requires c κs = (omega (arith, c .before .before .before .before .loop .inv .long, c .before .before .before .before .before .before .pre .0), omega arith)
+guess-at-requires c κs = (omega (arith, c .before .before .before .loop .inv .long, c .before .before .before .before .before .pre .0), omega arith)
 
 add-j : tie.Need-add-j Inv-loop μ-loop
 add-j c = search needs
@@ -30,7 +30,7 @@ loop-less : tie.Need-loop-less Inv-loop μ-loop
 loop-less c = search needs
 
 loop-again : tie.Need-loop-again Inv-loop μ-loop
-loop-again c = same-then (c .before .before .before .before .before .before .before .loop .inv) (c .before .before .guess-at .ensures)
+loop-again c = same-then (c .before .before .before .before .before .before .loop .inv) (c .before .before .guess-at .ensures)
 
 same-length : tie.Need-same-length Inv-loop μ-loop
 same-length c = c .before .loop .inv .long

@@ -23,16 +23,14 @@ kind-at-requires-3 c κs = search needs
 
 returns : tie.Need-returns
 returns c =
-    let p = c .before .before .before .before .before .pre in
+    let p = c .before .before .before .before .before .pre .1 in
     no-edges _ _ _ _ (p .2) (p .1) (c .before .before .before .kind-at .ensures) (c .before .before .kind-at2 .ensures) (c .before .kind-at3 .ensures) (c .if1 .taken)
 
 mark-side-requires : tie.Need-mark-side-requires
-mark-side-requires c κs = search needs
+mark-side-requires c κs = (c .before .before .before .before .before .before .pre .0, (c .before .before .before .before .before .before .pre .1 .0, c .before .before .before .before .before .before .pre .1 .1, search needs, c .before .before .before .before .before .before .pre .1 .2, c .before .before .before .before .before .before .pre .1 .3))
 
 mark-side-requires-2 : tie.Need-mark-side-requires-2
-mark-side-requires-2 c κs =
-    let p = c .before .before .before .before .before .before .before .before .pre in
-    (local-on (p .0) (c .before .mark-side .ensures .long), p .1, search needs, p .2, p .3)
+mark-side-requires-2 c κs = (c .before .before .before .before .before .before .before .before .pre .0, (local-on (c .before .before .before .before .before .before .before .before .pre .1 .0) (c .before .mark-side .ensures .long), c .before .before .before .before .before .before .before .before .pre .1 .1, search needs, c .before .before .before .before .before .before .before .before .pre .1 .2, c .before .before .before .before .before .before .before .before .pre .1 .3))
 
 returns-2 : tie.Need-returns-2
 unfolding edgesAt

@@ -12,10 +12,10 @@ use Rattle.piece.proofs.near.mark_range.Statement.{statement}
 use Rattle.piece.proofs.near.mark_range.Tie as tie
 
 abbrev Inv-loop : tie.InvT-loop
-Inv-loop kinds marks₀ rules used from n k₀ marks k = (k ≤ n) × Marked (edgesTo kinds rules used from k) marks₀ marks
+Inv-loop kinds marks₀ rules used chains from n k₀ marks k = (k ≤ n) × Marked (edgesTo kinds rules used from k) marks₀ marks
 
 abbrev μ-loop : tie.MeasureT-loop
-μ-loop kinds marks₀ rules used from n k₀ marks k = n - k
+μ-loop kinds marks₀ rules used chains from n k₀ marks k = n - k
 
 loop-holds : tie.Need-loop-holds Inv-loop μ-loop
 loop-holds c = (omega arith, edges-start _ _ _ _)
@@ -24,9 +24,7 @@ add-mark-at : tie.Need-add-mark-at Inv-loop μ-loop
 add-mark-at c = search needs
 
 mark-at-requires : tie.Need-mark-at-requires Inv-loop μ-loop
-mark-at-requires c κs =
-    let p = c .before .before .before .before .pre in
-    (local-on (p .0) (c .before .before .loop .inv .1 .long), p .1, omega arith, omega arith)
+mark-at-requires c κs = (c .before .before .before .before .pre .0, (local-on (c .before .before .before .before .pre .1 .0) (c .before .before .loop .inv .1 .long), c .before .before .before .before .pre .1 .1, omega arith, omega arith))
 
 add-k : tie.Need-add-k Inv-loop μ-loop
 add-k c = search needs

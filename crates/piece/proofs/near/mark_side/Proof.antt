@@ -15,11 +15,11 @@ kind-at-requires-2 c κs = search needs
 
 returns : tie.Need-returns
 returns c =
-    let p = c .before .before .before .before .before .pre in
+    let p = c .before .before .before .before .before .pre .1 in
     one-type _ _ _ _ _ (p .2) (p .3) (p .1) (c .before .before .before .kind-at .ensures) (c .before .kind-at2 .ensures) (c .if1 .taken)
 
 mark-pair-requires : tie.Need-mark-pair-requires
-mark-pair-requires c κs = search needs
+mark-pair-requires c κs = (c .before .before .before .before .before .before .pre .0, ((c .before .before .before .before .before .before .pre .1 .0, c .before .before .before .before .before .before .pre .1 .1, c .before .before .before .before .before .before .pre .1 .2, c .before .before .before .before .before .before .pre .1 .3, c .before .before .before .before .before .before .pre .1 .4), (c .before .before .before .before .kind-at .ensures, c .before .before .kind-at2 .ensures)))
 
 returns-2 : tie.Need-returns-2
 returns-2 c = search needs
