@@ -32,8 +32,8 @@ pub enum MacroAnswer {
     No(Refusal),
 }
 
-// Writes a rule at place n.
-fn put_rule(tail: &mut [u16], n: usize, r: Rule)
+// Writes a rule at place n. Not a public call: its caller has tested the room.
+pub fn put_rule(tail: &mut [u16], n: usize, r: Rule)
     requires { ⌜ 8 * n + 8 ≤ length (now tail) ⌝ }
     ensures { λ _. ⌜ now (tail .exit) ≡ sets (now (tail .entry)) (8 * n) (ruleWords r) ⌝ }
 {

@@ -1,0 +1,4 @@
+-- What the contracts of the session cite: the session as a machine over bytes, and how the program's state and slices hold it.
+pub mod Session
+pub mod Held
+pub mod Example
