@@ -1,3 +1,4 @@
+# make try        builds the program without proving it, runs the specification's session and shows it: ten seconds
 # make demo       proves the program and runs the specification's session, input and output side by side
 # make test       the gate: layout of the sources, every proof from nothing, every must-fail edit, every program, the C tests
 # make fmt        lays the sources out
@@ -8,7 +9,7 @@
 # make valgrind   some hundred calls and some sessions under valgrind
 # make bench      times the library, and Magic and KLayout where they are installed, on the same layouts; COUNT=1 counts instructions too
 
-.PHONY: demo test fmt lib install examples check-c check-header check-session fuzz valgrind bench
+.PHONY: try demo test fmt lib install examples check-c check-header check-session fuzz valgrind bench
 
 PREFIX = /usr/local
 VERSION = 1.0
@@ -23,10 +24,17 @@ CFLAGS = -O2 -g
 NAIVE = build/naive_plane.o build/naive_rules.o build/naive_layout.o
 SOURCES := $(shell find crates/plane crates/paint crates/rules crates/piece crates/checker -name '*.rt' -o -name '*.antt')
 
+SIDE_BY_SIDE = paste crates/session/stdin - | awk -F '\t' '{ printf "%-24s %s\n", $$1, $$2 }'
+
+try:
+	@mkdir -p build
+	@rt try session > build/try.log 2>&1 || { cat build/try.log; exit 1; }
+	@cat crates/session/stdout | $(SIDE_BY_SIDE)
+
 demo:
 	@mkdir -p build
 	@rt check session > build/demo.log 2>&1 || { cat build/demo.log; exit 1; }
-	@bin/session < crates/session/stdin | paste crates/session/stdin - | awk -F '\t' '{ printf "%-24s %s\n", $$1, $$2 }'
+	@bin/session < crates/session/stdin | $(SIDE_BY_SIDE)
 
 # rt ci removes target/ and proves all; the archive and the program are taken from what it leaves. Its last line is printed again at the end.
 test:
