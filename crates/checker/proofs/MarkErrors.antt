@@ -1,17 +1,18 @@
--- The errors of one piece: what the steps of marking them are handed and what they make. Where a piece has no mark and no error is recorded near, the errors stay.
-use Prim.Native.Nat.{ℕ, _+_, _-_, _*_, _≤_, _<_}
+-- The marks and the errors of one piece: what the steps of marking them are handed and what they make. A calm piece has no mark; where none is and no error is recorded near, the errors stay.
+use Prim.Native.Nat.{ℕ, zero, suc, _+_, _-_, _*_, _≤_, _<_, min}
 use native.Mathlib.Omega.{arith}
 use mathlib.Core.Bool.{Bool, true, false, cond}
 use mathlib.Core.Path.{_≡_, refl, sym, _∙_, ap, subst}
 use mathlib.Core.Logic.{⊎-elim}
 use mathlib.Core.List.{List}
-use lib.Dec.{eqb}
-use lib.ListN.{length}
+use lib.Dec.{eqb, leb}
+use lib.ListN.{length, getD, replicate, length-replicate}
+use lib.Pow.{pow-pos, shr-le}
 use borrow.Author.Tests.{eq-eqb, eqb-true, le-leb, lt-leb}
 use Rattle.plane.specs.declared.tile.Area.{Area}
 use Rattle.plane.specs.Area.{AreaIn, squaresIn}
 use Rattle.plane.specs.Checks.{sumTo}
-use Rattle.plane.specs.Picture.{Picture, inArea, painted, stamped, table, tiles, written}
+use Rattle.plane.specs.Picture.{Picture, bitOf, inArea, painted, stamped, table, tiles, written}
 use Rattle.plane.specs.Plane.{Plane}
 use Rattle.plane.specs.Words.{IsTable, count, height, kinds, pictureOf, roomIn, width}
 use Rattle.plane.proofs.Basics.{bool-cases, lt-or-ge}
@@ -19,18 +20,21 @@ use Rattle.plane.proofs.Counting.{sum-tight}
 use Rattle.plane.proofs.FromTable.{table-plane, tiles-agree}
 use Rattle.plane.proofs.Tables.{written-count}
 use Rattle.paint.specs.Brush.{Small}
-use Rattle.paint.specs.Paint.{tableLike}
 use Rattle.paint.specs.Tables.{Paintable, PaintedTo}
 use Rattle.paint.proofs.Calls.{table-at}
 use Rattle.rules.specs.Words.{haloOf, rulesOf}
-use Rattle.rules.proofs.Window.{within}
+use Rattle.rules.proofs.Vetted.{all-apart}
+use Rattle.rules.proofs.Window.{area-of, within}
 use Rattle.piece.specs.Calm.{Calm}
-use Rattle.piece.specs.Remark.{BlockIn, Checkable, nearArea, remarked}
+use Rattle.piece.specs.Remark.{BlockIn, Checkable, nearArea, nearBlock, remarked}
 use Rattle.piece.specs.Rows.{PieceRows, NoMarks}
-use Rattle.piece.proofs.Calms.{calm-remarked}
-use Rattle.piece.proofs.Remarks.{block-in, halo-in, near-in, near-small, stamped-piece, unmarked-piece}
-use Rattle.checker.specs.CheckSteps.{ErrorsIn, ErrorsMarked, NothingNear, NothingMarked, errorsAfter}
-use Rattle.checker.proofs.Shapes.{marks-area}
+use Rattle.piece.proofs.Calms.{calm-free}
+use Rattle.piece.proofs.Remarks.{block-in, halo-in, near-in, near-same, near-small, rules-near, stamped-piece, unmarked-piece}
+use Rattle.checker.specs.Check.{pieceErrors}
+use Rattle.checker.specs.CheckSteps.{NothingMarked, PieceIn, Remade}
+use Rattle.checker.specs.Layout.{Layout, room}
+use Rattle.checker.proofs.Paints.{made, paintable-room}
+use Rattle.checker.proofs.Shapes.{layout-words, marks-area}
 
 -- ---- an area without a type
 -- a sum that is 0 has no other term
@@ -59,111 +63,123 @@ clear-same {c} {ws} a T two e x y u v = ⊎-elim
     (λ (m : pictureOf ws x y ≤ 0). omega arith) (lt-or-ge 0 (pictureOf ws x y))))
     (λ s. rw s refl) (bool-cases (inArea a x y))
 
--- the two looks at a piece
-pub both-looks : {ms ws : List ℕ} {k bx by n : ℕ} (a : Area) (b : Bool) → (b ≡ true → Calm (width ms) (height ms) (pictureOf ms) k bx by) → b ≡ true → n ≡ squaresIn (pictureOf ws) 1 a → eqb n 0 ≡ true → NothingNear ms ws k bx by a
-both-looks {n = n} a b f e g z = record { calm = f e; clear = sym g ∙ eqb-true n 0 z }
-
--- the two looks at its marks
+-- the two looks at a piece's marks
 pub both-clear : {ws rows : List ℕ} {n : ℕ} (a : Area) (b : Bool) → (b ≡ true → NoMarks rows) → b ≡ true → n ≡ squaresIn (pictureOf ws) 1 a → eqb n 0 ≡ true → NothingMarked ws a rows
 both-clear {n = n} a b f e g z = record { none = f e; clear = sym g ∙ eqb-true n 0 z }
 
+-- ---- the marks of a calm piece
+-- they are rows of zeros
+pub calm-rows : {ms rules : List ℕ} {used k bx by : ℕ} → Checkable ms rules used k bx by → Calm (width ms) (height ms) (pictureOf ms) k bx by
+    → PieceRows (width ms) (height ms) (pictureOf ms) (rulesOf rules used) k bx by (replicate 48 0)
+calm-rows {ms} {rules} {used} {k} {bx} {by} K C = record {
+  long = length-replicate {A = ℕ} 48 0;
+  mark = λ x y a b c d.
+      let i : nearBlock k bx by x y ≡ true = sym (near-same (width ms) (height ms) k bx by x y (omega arith) (omega arith))
+      ∙ area-of (nearArea (width ms) (height ms) k bx by) x y (record { left-of = a; right-of = b; low = c; high = d }) in
+      unset (getD (replicate 48 0) (y - (16 * by - k)) 0) (x - (16 * bx - k)) (none 48 (y - (16 * by - k)))
+      ∙ sym (ap (λ (z : Bool). cond {A = ℕ} z 1 0) (calm-free C (halo-in K) x y i (rulesOf rules used) (rules-near K) (all-apart rules used (kinds ms) (K .sound))));
+  narrow = λ i u. omega (arith, none 48 i, pow-pos (min (width ms) (16 * bx + 16 + k) - (16 * bx - k)));
+  rest = λ i u. none 48 i;
+}
+  where
+    none : (n i : ℕ) → _≡_ {A = ℕ} (getD (replicate n 0) i 0) 0
+    none zero i = refl
+    none (suc n) zero = refl
+    none (suc n) (suc i) = none n i
+
+    unset : (n j : ℕ) → n ≡ 0 → bitOf n j ≡ 0
+    unset n j f = omega (arith, shr-le n j)
+
 -- ---- tables and pictures
--- pictures that agree in the window are painted alike
-agree-to : {c r : ℕ} {ws vs : List ℕ} {p q : Picture} → ((x y : ℕ) → x < width ws → y < height ws → p x y ≡ q x y) → PaintedTo c ws p vs r → PaintedTo c ws q vs r
+-- a table made in the working room, and copied where it has room
+module _ {c r : ℕ} {ws us : List ℕ} {a : Area} {q : Picture} (T : Paintable c ws a) (W : PaintedTo c ws q us r) where
+  pub remade-full : c < r → Remade ws q false ws
+  remade-full u = record { fits = sym (lt-leb (length (tiles (width ws) (height ws) q)) (roomIn (length ws)) (omega (arith, W .full u, paintable-room T))); leaves = refl }
+
+  pub remade-done : {vs : List ℕ} → r ≤ c → vs ≡ us → Remade ws q true vs
+  remade-done u e = record {
+    fits = sym (le-leb (length (tiles (width ws) (height ws) q)) (roomIn (length ws)) (omega (arith, W .number u, paintable-room T)));
+    leaves = e ∙ made (paintable-room T) W u;
+  }
+
+-- pictures that agree in the window have one table
+agree-to : {ws vs : List ℕ} {r : Bool} {p q : Picture} → ((x y : ℕ) → x < width ws → y < height ws → p x y ≡ q x y) → Remade ws p r vs → Remade ws q r vs
 unfolding table
-agree-to {c} {r} {ws} {vs} {p} {q} f P =
+agree-to {ws} {vs} {r} {p} {q} f R =
     let e = tiles-agree (width ws) (height ws) p q f in
     record {
-      number = λ u. P .number u ∙ ap length e;
-      full = λ u. omega (arith, P .full u, ap length e);
-      done = λ u. P .done u ∙ ap (written c (width ws) (height ws) (kinds ws)) e;
-      sound = P .sound;
+      fits = R .fits ∙ ap (λ (n : ℕ). leb n (roomIn (length ws))) (ap length e);
+      leaves = R .leaves ∙ ap (λ (z : List ℕ). cond r z ws) (ap (written (roomIn (length ws)) (width ws) (height ws) (kinds ws)) e);
     }
 
--- what was made and copied is the picture's table
-pub taken : {c r : ℕ} {ws us vs : List ℕ} {q : Picture} → c ≡ roomIn (length ws) → PaintedTo c ws q us r → r ≤ c → vs ≡ us → vs ≡ tableLike ws q
-taken {ws = ws} {q = q} e P u T = T ∙ (P .done u ∙ ap (λ (n : ℕ). table n (width ws) (height ws) (kinds ws) q) e)
+-- a table shows its own picture
+itself : {ws : List ℕ} → IsTable (roomIn (length ws)) ws → Remade ws (pictureOf ws) true ws
+unfolding table
+itself {ws} T =
+    let n = ap count (T .same) ∙ written-count (roomIn (length ws)) (width ws) (height ws) (kinds ws) (tiles (width ws) (height ws) (pictureOf ws)) in
+    record { fits = sym (le-leb (length (tiles (width ws) (height ws) (pictureOf ws))) (roomIn (length ws)) (omega (arith, n, T .room))); leaves = T .same }
 
 -- ---- what the steps are handed
-module _ {ms ws work rules : List ℕ} {used bx by : ℕ} (P : ErrorsIn ms ws work rules used bx by) where
-  -- how many tiles the errors have afterwards
-  abbrev afterTiles : ℕ
-  afterTiles = length (tiles (width ws) (height ws) (errorsAfter ms ws rules used bx by))
+module _ {l : Layout} {work rules : List ℕ} {used bx by : ℕ} (P : PieceIn l work rules used bx by) where
+  pub piece-words : 13 ≤ length (l .material)
+  piece-words = layout-words (P .fit .lengths .tables)
 
-  pub errors-words : 13 ≤ length ms
-  errors-words = omega (arith, P .room .words, P .room .least)
+  pub piece-listed : 8 * used ≤ length rules
+  piece-listed = omega (arith, P .fit .lengths .list .room)
 
-  pub errors-listed : 8 * used ≤ length rules
-  errors-listed = omega (arith, P .piece .listed .room)
+  pub piece-checkable : {k : ℕ} → k ≡ haloOf rules used → Checkable (l .material) rules used k bx by
+  piece-checkable e = record {
+    plane = table-plane (room l) (l .material) (P .fit .tables .material);
+    listed = P .fit .lengths .list;
+    sound = P .fit .sound;
+    halo = e;
+    column = P .column;
+    row = P .row;
+  }
 
-  pub errors-checkable : {k : ℕ} → k ≡ haloOf rules used → Checkable ms rules used k bx by
-  errors-checkable e = subst (λ (n : ℕ). Checkable ms rules used n bx by) (sym e) (P .piece)
+  pub piece-block : BlockIn (width (l .material)) (height (l .material)) bx by
+  piece-block = block-in (piece-checkable refl)
 
-  pub errors-block : BlockIn (width ms) (height ms) bx by
-  errors-block = block-in (P .piece)
+  pub piece-halo : {k : ℕ} → k ≡ haloOf rules used → k ≤ 16
+  piece-halo e = halo-in (piece-checkable e)
 
-  pub errors-halo : {k : ℕ} → k ≡ haloOf rules used → k ≤ 16
-  errors-halo e = halo-in (errors-checkable e)
+  pub errors-plane : Plane (l .errors)
+  errors-plane = table-plane (roomIn (length (l .errors))) (l .errors) (P .fit .tables .errors .table)
 
-  pub errors-plane : Plane ws
-  errors-plane = table-plane (roomIn (length ws)) ws (P .marks .table)
+  pub errors-area : {a : Area} (k : ℕ) → a ≡ nearArea (width (l .material)) (height (l .material)) k bx by → AreaIn (width (l .errors)) (height (l .errors)) a
+  errors-area k f = marks-area (P .fit .tables .errors) (subst (λ (b : Area). AreaIn (width (l .material)) (height (l .material)) b) (sym f) (near-in k piece-block))
 
-  pub errors-area : {k : ℕ} {a : Area} → k ≡ haloOf rules used → a ≡ nearArea (width ms) (height ms) k bx by → AreaIn (width ws) (height ws) a
-  errors-area {k} e f = marks-area (P .marks) (subst (λ (b : Area). AreaIn (width ms) (height ms) b) (sym f) (near-in k errors-block))
+  pub errors-paintable : {c : ℕ} {a : Area} (k : ℕ) → c ≡ room l → a ≡ nearArea (width (l .material)) (height (l .material)) k bx by → Paintable c (l .errors) a
+  errors-paintable k e f = record {
+    table = table-at (ap roomIn (P .fit .lengths .tables .errors) ∙ sym e) (P .fit .tables .errors .table);
+    small = omega (arith, P .fit .lengths .tables .material .most);
+    area = errors-area k f;
+  }
 
-  pub errors-paintable : {c k : ℕ} {a : Area} → c ≡ roomIn (length ms) → k ≡ haloOf rules used → a ≡ nearArea (width ms) (height ms) k bx by → Paintable c ws a
-  errors-paintable e h f = record { table = table-at (ap roomIn (P .long) ∙ sym e) (P .marks .table); small = omega (arith, P .room .most); area = errors-area h f }
-
-  pub errors-small : {k : ℕ} {a : Area} → k ≡ haloOf rules used → a ≡ nearArea (width ms) (height ms) k bx by → Small a
+  pub errors-small : {k : ℕ} {a : Area} → k ≡ haloOf rules used → a ≡ nearArea (width (l .material)) (height (l .material)) k bx by → Small a
   errors-small {k} e f =
-      let s = errors-halo e in
-      subst (λ (b : Area). Small b) (sym f) (record { columns = near-small (width ms) k bx s; rows = near-small (height ms) k by s })
+      let s = piece-halo e in
+      subst (λ (b : Area). Small b) (sym f) (record { columns = near-small (width (l .material)) k bx s; rows = near-small (height (l .material)) k by s })
 
   -- ---- what they make
-  pub as-errors : {c r k : ℕ} {a : Area} {rows vs : List ℕ} → k ≡ haloOf rules used → a ≡ nearArea (width ms) (height ms) k bx by
-      → PieceRows (width ms) (height ms) (pictureOf ms) (rulesOf rules used) k bx by rows
-      → PaintedTo c ws (stamped (pictureOf ws) a rows) vs r → PaintedTo c ws (errorsAfter ms ws rules used bx by) vs r
-  as-errors {c} {r} {k} {a} {rows} {vs} e f R W =
-      let M = P .marks in
-      subst (λ (z : ℕ). PaintedTo c ws (remarked (width ms) (height ms) (pictureOf ms) (rulesOf rules used) z bx by (pictureOf ws)) vs r) e
-      (agree-to {p = stamped (pictureOf ws) a rows} {q = remarked (width ms) (height ms) (pictureOf ms) (rulesOf rules used) k bx by (pictureOf ws)}
-      (λ x y u v. ap (λ (b : Area). stamped (pictureOf ws) b rows x y) f ∙ stamped-piece (pictureOf ws) R x y (omega (arith, M .wide)) (omega (arith, M .tall))) W)
+  module _ {k : ℕ} {a : Area} {rows : List ℕ} (e : k ≡ haloOf rules used) (f : a ≡ nearArea (width (l .material)) (height (l .material)) k bx by)
+      (R : PieceRows (width (l .material)) (height (l .material)) (pictureOf (l .material)) (rulesOf rules used) k bx by rows) where
+    -- the piece's errors, for k as for the halo
+    for-halo : remarked (width (l .material)) (height (l .material)) (pictureOf (l .material)) (rulesOf rules used) k bx by (pictureOf (l .errors)) ≡ pieceErrors l (rulesOf rules used) (haloOf rules used) bx by
+    for-halo = ap {B = Picture} (λ (n : ℕ). pieceErrors l (rulesOf rules used) n bx by) e
 
-  -- where no error is recorded near a piece, and a check of it would clear them, they stay, and so have room
-  errors-stay : (a : Area) → squaresIn (pictureOf ws) 1 a ≡ 0
-      → ((x y : ℕ) → x < width ms → y < height ms → painted (pictureOf ws) a 0 x y ≡ errorsAfter ms ws rules used bx by x y) → ErrorsMarked ms ws rules used bx by true ws
-  unfolding table
-  errors-stay a z f =
-      let M = P .marks in
-      let t = tiles-agree (width ws) (height ws) (pictureOf ws) (errorsAfter ms ws rules used bx by) (λ x y u v.
-      sym (clear-same a (M .table) (M .two) z x y u v) ∙ f x y (omega (arith, M .wide)) (omega (arith, M .tall))) in
-      let n = ap count (M .table .same) ∙ written-count (roomIn (length ws)) (width ws) (height ws) (kinds ws) (tiles (width ws) (height ws) (pictureOf ws)) in
-      record {
-        fits = sym (le-leb afterTiles (roomIn (length ms)) (omega (arith, n, ap length t, M .table .room, ap roomIn (P .long))));
-        leaves = M .table .same ∙ ap (written (roomIn (length ws)) (width ws) (height ws) (kinds ws)) t;
-      }
+    -- the area with the rows stamped is the piece's
+    pub as-errors : {r : Bool} {vs : List ℕ} → Remade (l .errors) (stamped (pictureOf (l .errors)) a rows) r vs → Remade (l .errors) (pieceErrors l (rulesOf rules used) (haloOf rules used) bx by) r vs
+    as-errors {r} {vs} W =
+        let M = P .fit .tables .errors in
+        subst (λ (q : Picture). Remade (l .errors) q r vs) for-halo
+        (agree-to (λ x y u v. ap (λ (b : Area). stamped (pictureOf (l .errors)) b rows x y) f ∙ stamped-piece (pictureOf (l .errors)) R x y (omega (arith, M .wide)) (omega (arith, M .tall))) W)
 
-  -- the area near the block, for the halo of the rules
-  near-halo : {k : ℕ} {a : Area} → k ≡ haloOf rules used → a ≡ nearArea (width ms) (height ms) k bx by → a ≡ nearArea (width ms) (height ms) (haloOf rules used) bx by
-  near-halo e f = f ∙ ap (λ (n : ℕ). nearArea (width ms) (height ms) n bx by) e
-
-  -- so it is with a calm piece
-  pub errors-calm : {k : ℕ} {a : Area} → k ≡ haloOf rules used → a ≡ nearArea (width ms) (height ms) k bx by → NothingNear ms ws k bx by a → ErrorsMarked ms ws rules used bx by true ws
-  errors-calm {k} {a} e f N =
-      let K : Calm (width ms) (height ms) (pictureOf ms) (haloOf rules used) bx by = subst (λ (n : ℕ). Calm (width ms) (height ms) (pictureOf ms) n bx by) e (N .calm) in
-      errors-stay a (N .clear) (λ x y u v. ap (λ (b : Area). painted (pictureOf ws) b 0 x y) (near-halo e f) ∙ calm-remarked (P .piece) K (pictureOf ws) x y u v)
-
-  -- and with one without a mark
-  pub errors-unmarked : {k : ℕ} {a : Area} {rows : List ℕ} → k ≡ haloOf rules used → a ≡ nearArea (width ms) (height ms) k bx by
-      → PieceRows (width ms) (height ms) (pictureOf ms) (rulesOf rules used) k bx by rows → NothingMarked ws a rows → ErrorsMarked ms ws rules used bx by true ws
-  errors-unmarked {k} {a} {rows} e f R N =
-      let Q : PieceRows (width ms) (height ms) (pictureOf ms) (rulesOf rules used) (haloOf rules used) bx by rows
-      = subst (λ (n : ℕ). PieceRows (width ms) (height ms) (pictureOf ms) (rulesOf rules used) n bx by rows) e R in
-      errors-stay a (N .clear) (λ x y u v. ap (λ (b : Area). painted (pictureOf ws) b 0 x y) (near-halo e f) ∙ unmarked-piece (pictureOf ws) Q (N .none) x y u v)
-
-  module _ {c r : ℕ} {us : List ℕ} (e : c ≡ roomIn (length ms)) (W : PaintedTo c ws (errorsAfter ms ws rules used bx by) us r) where
-    pub errors-full : c < r → ErrorsMarked ms ws rules used bx by false ws
-    errors-full u = record { fits = sym (lt-leb afterTiles (roomIn (length ms)) (omega (arith, W .full u))); leaves = refl }
-
-    pub errors-done : {vs : List ℕ} → r ≤ c → vs ≡ us → ErrorsMarked ms ws rules used bx by true vs
-    errors-done u T = record { fits = sym (le-leb afterTiles (roomIn (length ms)) (omega (arith, W .number u))); leaves = taken (e ∙ ap roomIn (sym (P .long))) W u T }
+    -- where no error is recorded near a piece without a mark, the errors stay
+    pub errors-stay : NothingMarked (l .errors) a rows → Remade (l .errors) (pieceErrors l (rulesOf rules used) (haloOf rules used) bx by) true (l .errors)
+    errors-stay N =
+        let M = P .fit .tables .errors in
+        subst (λ (q : Picture). Remade (l .errors) q true (l .errors)) for-halo
+        (agree-to (λ x y u v. sym (clear-same a (M .table) (M .two) (N .clear) x y u v)
+        ∙ (ap (λ (b : Area). painted (pictureOf (l .errors)) b 0 x y) f ∙ unmarked-piece (pictureOf (l .errors)) R (N .none) x y (omega (arith, M .wide)) (omega (arith, M .tall))))
+        (itself (M .table)))

@@ -12,25 +12,23 @@ use Rattle.plane.specs.declared.tile.Area.{Area}
 use Rattle.plane.specs.Area.{AreaIn}
 use Rattle.plane.specs.Picture.{Picture, painted, tiles}
 use Rattle.plane.specs.Words.{height, kinds, pictureOf, roomIn, width}
-use Rattle.plane.proofs.Basics.{and-both, and-left, and-right, bool-cases}
-use Rattle.plane.proofs.FromTable.{table-plane}
+use Rattle.plane.proofs.Basics.{and-left, and-right, bool-cases, tf}
 use Rattle.paint.specs.Paint.{tableLike}
-use Rattle.paint.specs.Tables.{Paintable, PaintedTo, TilesAfter}
+use Rattle.paint.specs.Tables.{Paintable, TilesAfter}
 use Rattle.paint.proofs.Again.{as-picture}
 use Rattle.paint.proofs.Calls.{table-at}
-use Rattle.paint.proofs.Whole.{like-table, painted-as, painted-types, table-size, table-words}
+use Rattle.paint.proofs.Whole.{like-table, painted-types, table-size, table-words}
 use Rattle.rules.specs.declared.rule.Rule.{Rule}
 use Rattle.rules.specs.Forbid.{forbidden}
 use Rattle.rules.specs.Words.{haloOf, rulesOf}
-use Rattle.piece.specs.Remark.{BlockIn, Checkable, nearArea, nearBlock, remarked}
-use Rattle.piece.proofs.Remarks.{block-in, near-in}
+use Rattle.piece.specs.Remark.{nearArea, nearBlock, remarked}
+use Rattle.piece.proofs.Remarks.{near-in}
 use Rattle.checker.specs.Check.{checkedPiece, pieceErrors, pieceFits, pieceWaiting}
-use Rattle.checker.specs.CheckSteps.{ErrorsIn, ErrorsMarked, PieceIn, PieceTried}
+use Rattle.checker.specs.CheckSteps.{PieceIn, PieceTried, Remade}
 use Rattle.checker.specs.Layout.{Layout, Marks, lent, room}
 use Rattle.checker.specs.Ready.{Fit}
-use Rattle.checker.proofs.MarkErrors.{taken}
-use Rattle.checker.proofs.Paints.{again-fits}
-use Rattle.checker.proofs.Shapes.{layout-words, marks-area}
+use Rattle.checker.proofs.MarkErrors.{piece-block}
+use Rattle.checker.proofs.Shapes.{marks-area}
 use Rattle.checker.proofs.Shows.{made-shows}
 
 -- ---- tables and pictures
@@ -64,34 +62,15 @@ waitingTiles l bx by = length (tiles (width (l .waiting)) (height (l .waiting)) 
 
 -- ---- what the steps are handed
 module _ {l : Layout} {work rules : List ℕ} {used bx by : ℕ} (P : PieceIn l work rules used bx by) where
-  pub piece-words : 13 ≤ length (l .material)
-  piece-words = layout-words (P .fit .lengths .tables)
-
-  piece-checkable : Checkable (l .material) rules used (haloOf rules used) bx by
-  piece-checkable = record {
-    plane = table-plane (room l) (l .material) (P .fit .tables .material);
-    listed = P .fit .lengths .list;
-    sound = P .fit .sound;
-    halo = refl;
-    column = P .column;
-    row = P .row;
-  }
-
-  pub piece-block : BlockIn (width (l .material)) (height (l .material)) bx by
-  piece-block = block-in piece-checkable
-
   pub waiting-paintable : {c : ℕ} {a : Area} → c ≡ room l → a ≡ nearArea (width (l .material)) (height (l .material)) 0 bx by → Paintable c (l .waiting) a
   waiting-paintable e f = record {
     table = table-at (ap roomIn (P .fit .lengths .tables .waiting) ∙ sym e) (P .fit .tables .waiting .table);
     small = omega (arith, P .fit .lengths .tables .material .most);
-    area = marks-area (P .fit .tables .waiting) (subst (λ (b : Area). AreaIn (width (l .material)) (height (l .material)) b) (sym f) (near-in 0 piece-block));
+    area = marks-area (P .fit .tables .waiting) (subst (λ (b : Area). AreaIn (width (l .material)) (height (l .material)) b) (sym f) (near-in 0 (piece-block P)));
   }
 
   pub waiting-kinds : kinds (l .waiting) ≡ 2
   waiting-kinds = P .fit .tables .waiting .two
-
-  pub piece-errors : {vs : List ℕ} → length vs ≡ length work → ErrorsIn (l .material) (l .errors) vs rules used bx by
-  piece-errors e = record { piece = piece-checkable; room = P .fit .lengths .tables .material; marks = P .fit .tables .errors; long = P .fit .lengths .tables .errors; working = e ∙ P .working }
 
   -- ---- what they make
   waiting-after : {a : Area} → a ≡ nearArea (width (l .material)) (height (l .material)) 0 bx by → painted (pictureOf (l .waiting)) a 0 ≡ pieceWaiting l bx by
@@ -100,45 +79,71 @@ module _ {l : Layout} {work rules : List ℕ} {used bx by : ℕ} (P : PieceIn l 
       let g : nearArea (width (l .material)) (height (l .material)) 0 bx by ≡ nearArea (width (l .waiting)) (height (l .waiting)) 0 bx by = λ i. nearArea (sym (M .wide) i) (sym (M .tall) i) 0 bx by in
       ap {B = Picture} (λ (b : Area). painted (pictureOf (l .waiting)) b 0) (f ∙ g)
 
-  pub as-waiting : {c r : ℕ} {a : Area} {vs : List ℕ} → a ≡ nearArea (width (l .material)) (height (l .material)) 0 bx by
-      → PaintedTo c (l .waiting) (painted (pictureOf (l .waiting)) a 0) vs r → PaintedTo c (l .waiting) (pieceWaiting l bx by) vs r
-  as-waiting f W = painted-as (waiting-after f) W
+  pub as-waiting : {r : Bool} {a : Area} {vs : List ℕ} → a ≡ nearArea (width (l .material)) (height (l .material)) 0 bx by
+      → Remade (l .waiting) (painted (pictureOf (l .waiting)) a 0) r vs → Remade (l .waiting) (pieceWaiting l bx by) r vs
+  as-waiting {r} {vs = vs} f W = subst (λ (q : Picture). Remade (l .waiting) q r vs) (waiting-after f) W
 
   pub as-waiting-tiles : {c r : ℕ} {a : Area} → a ≡ nearArea (width (l .material)) (height (l .material)) 0 bx by
       → TilesAfter c (l .waiting) (painted (pictureOf (l .waiting)) a 0) r → TilesAfter c (l .waiting) (pieceWaiting l bx by) r
   as-waiting-tiles {c} {r} f W = subst (λ (q : Picture). TilesAfter c (l .waiting) q r) (waiting-after f) W
 
-  pub piece-unmarked : {b : Bool} {es : List ℕ} → ErrorsMarked (l .material) (l .errors) rules used bx by b es → not b ≡ true → PieceTried l rules used bx by false (lent (l .material) es (l .waiting))
+  -- waiting would have too many tiles
+  pub piece-unwaited : {c r : ℕ} → c ≡ room l → TilesAfter c (l .waiting) (pieceWaiting l bx by) r → c < r → PieceTried l rules used bx by false l
   unfolding pieceFits
-  piece-unmarked {b} E n =
-      let f = not-true b n in
-      let a = E .leaves ∙ ap (λ (z : Bool). cond z (tableLike (l .errors) (pieceErrors l (rulesOf rules used) (haloOf rules used) bx by)) (l .errors)) f in
-      record {
-        fits = sym (no-first (leb (errorTiles l rules used bx by) (room l)) (leb (waitingTiles l bx by) (room l)) (sym (E .fits) ∙ f));
-        leaves = λ i. record { material = l .material; errors = a i; waiting = l .waiting };
-      }
+  piece-unwaited e W u = record {
+    fits = sym (no-second (leb (errorTiles l rules used bx by) (room l)) (leb (waitingTiles l bx by) (room l)) (lt-leb (waitingTiles l bx by) (room l) (omega (arith, W .full u))));
+    leaves = refl;
+  }
 
-  module _ {c : ℕ} (e : c ≡ room l) where
-    pub piece-unwaited : {r : ℕ} → TilesAfter c (l .waiting) (pieceWaiting l bx by) r → c < r → PieceTried l rules used bx by false l
-    unfolding pieceFits
-    piece-unwaited W u = record {
-      fits = sym (no-second (leb (errorTiles l rules used bx by) (room l)) (leb (waitingTiles l bx by) (room l)) (lt-leb (waitingTiles l bx by) (room l) (omega (arith, W .full u))));
-      leaves = refl;
-    }
+  module _ {b : Bool} {es : List ℕ} (E : Remade (l .errors) (pieceErrors l (rulesOf rules used) (haloOf rules used) bx by) b es) where
+    -- have the errors room
+    errors-fit : b ≡ leb (errorTiles l rules used bx by) (room l)
+    errors-fit = E .fits ∙ ap (λ (n : ℕ). leb (errorTiles l rules used bx by) (roomIn n)) (P .fit .lengths .tables .errors)
 
-    -- errors are marked and waiting is copied, whose tiles were counted first
-    pub piece-checked : {b : Bool} {d s : ℕ} {es zs qs : List ℕ} → ErrorsMarked (l .material) (l .errors) rules used bx by b es → not b ≡ false
-        → TilesAfter c (l .waiting) (pieceWaiting l bx by) d → d ≤ c → PaintedTo c (l .waiting) (pieceWaiting l bx by) zs s → qs ≡ zs
-        → PieceTried l rules used bx by true (lent (l .material) es qs)
+    -- their words, by whether they have
+    errors-words : {d : Bool} → b ≡ d → es ≡ cond d (tableLike (l .errors) (pieceErrors l (rulesOf rules used) (haloOf rules used) bx by)) (l .errors)
+    errors-words e = E .leaves ∙ ap (λ (z : Bool). cond z (tableLike (l .errors) (pieceErrors l (rulesOf rules used) (haloOf rules used) bx by)) (l .errors)) e
+
+    -- they have none
+    pub piece-unmarked : not b ≡ true → PieceTried l rules used bx by false (lent (l .material) es (l .waiting))
     unfolding pieceFits
-    piece-checked {b} E n W v Z S =
-        let f = not-false b n in
-        let a = E .leaves ∙ ap (λ (z : Bool). cond z (tableLike (l .errors) (pieceErrors l (rulesOf rules used) (haloOf rules used) bx by)) (l .errors)) f in
-        let q = taken (e ∙ ap roomIn (sym (P .fit .lengths .tables .waiting))) Z (again-fits W v Z) S in
+    piece-unmarked n =
+        let f = not-true b n in
+        let a = errors-words f in
         record {
-          fits = sym (and-both (leb (errorTiles l rules used bx by) (room l)) (leb (waitingTiles l bx by) (room l)) (sym (E .fits) ∙ f) (le-leb (waitingTiles l bx by) (room l) (omega (arith, W .number v))));
-          leaves = λ i. record { material = l .material; errors = a i; waiting = q i };
+          fits = sym (no-first (leb (errorTiles l rules used bx by) (room l)) (leb (waitingTiles l bx by) (room l)) (sym errors-fit ∙ f));
+          leaves = λ i. record { material = l .material; errors = a i; waiting = l .waiting };
         }
+
+    module _ {r : Bool} {qs : List ℕ} (W : Remade (l .waiting) (pieceWaiting l bx by) r qs) where
+      waiting-fits : r ≡ leb (waitingTiles l bx by) (room l)
+      waiting-fits = W .fits ∙ ap (λ (n : ℕ). leb (waitingTiles l bx by) (roomIn n)) (P .fit .lengths .tables .waiting)
+
+      -- the errors have room: it is for waiting to say; without room there the errors must have stayed
+      piece-tried : b ≡ true → (r ≡ false → es ≡ l .errors) → PieceTried l rules used bx by r (lent (l .material) es qs)
+      unfolding pieceFits
+      piece-tried t stay = record {
+        fits = waiting-fits ∙ ap (λ (z : Bool). z && leb (waitingTiles l bx by) (room l)) (sym t ∙ errors-fit);
+        leaves = (λ i. record { material = l .material; errors = words r refl i; waiting = W .leaves i }) ∙ both r;
+      }
+        where
+          words : (d : Bool) → r ≡ d → es ≡ cond d (tableLike (l .errors) (pieceErrors l (rulesOf rules used) (haloOf rules used) bx by)) (l .errors)
+          words true e = errors-words t
+          words false e = stay e
+
+          both : (d : Bool) → lent (l .material) (cond d (tableLike (l .errors) (pieceErrors l (rulesOf rules used) (haloOf rules used) bx by)) (l .errors)) (cond d (tableLike (l .waiting) (pieceWaiting l bx by)) (l .waiting))
+              ≡ cond d (checkedPiece l (rulesOf rules used) (haloOf rules used) bx by) l
+          both true = refl
+          both false = refl
+
+      -- they were marked, and the tiles of waiting were counted first
+      pub piece-checked : {c d : ℕ} → c ≡ room l → not b ≡ false → TilesAfter c (l .waiting) (pieceWaiting l bx by) d → d ≤ c → PieceTried l rules used bx by r (lent (l .material) es qs)
+      piece-checked e n T u = piece-tried (not-false b n) (λ f. tf (sym (waiting-fits ∙ le-leb (waitingTiles l bx by) (room l) (omega (arith, T .number u))) ∙ f))
+
+  -- a quiet piece: the errors stay
+  pub piece-quiet : {r : Bool} {qs : List ℕ} → Remade (l .errors) (pieceErrors l (rulesOf rules used) (haloOf rules used) bx by) true (l .errors)
+      → Remade (l .waiting) (pieceWaiting l bx by) r qs → PieceTried l rules used bx by r (lent (l .material) (l .errors) qs)
+  piece-quiet E W = piece-tried E W refl (λ f. refl)
 
   -- ---- afterwards
   -- the types of what a piece makes

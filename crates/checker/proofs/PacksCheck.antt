@@ -34,7 +34,6 @@ pieces-few w h p u v =
           (λ by. omega (arith, row-few (blocks w) (λ bx. cond (pieceWaits w h p bx by) 1 0) (λ bx. bit-few (pieceWaits w h p bx by)))),
     )
 
--- a rule that is the lowest bad one is one of those used
 -- a run's number is 0 or 7
 turn-number : (b : Block) (f : Bool) (l : Layout) (r : Run) → (r .number ≡ 0) ⊎ (r .number ≡ 7) → (turn b f l r .number ≡ 0) ⊎ (turn b f l r .number ≡ 7)
 turn-number Nothing f l r e = inl refl

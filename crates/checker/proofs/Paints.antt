@@ -51,7 +51,7 @@ module _ {l : Layout} {work : List ℕ} {a : Area} {kind : ℕ} where
 
 -- ---- one table painted
 -- the room of a table that can be painted is the one that its words have
-paintable-room : {c : ℕ} {ws : List ℕ} {a : Area} → Paintable c ws a → c ≡ roomIn (length ws)
+pub paintable-room : {c : ℕ} {ws : List ℕ} {a : Area} → Paintable c ws a → c ≡ roomIn (length ws)
 paintable-room P = omega (arith, table-length (P .table))
 
 -- what had room once has it again
@@ -66,7 +66,7 @@ module _ {c r : ℕ} {ws : List ℕ} {q : Picture} (e : c ≡ roomIn (length ws)
   few-enough u = omega (arith, P .number u, e)
 
 module _ {c r : ℕ} {ws vs : List ℕ} {q : Picture} (e : c ≡ roomIn (length ws)) (P : PaintedTo c ws q vs r) where
-  made : r ≤ c → vs ≡ tableLike ws q
+  pub made : r ≤ c → vs ≡ tableLike ws q
   made u = P .done u ∙ ap (λ (n : ℕ). table n (width ws) (height ws) (kinds ws) q) e
 
 -- ---- both

@@ -9,18 +9,16 @@ use Rattle.plane.specs.declared.tile.Area.{Area}
 use Rattle.plane.specs.Area.{squaresIn}
 use Rattle.plane.specs.Picture.{Picture, tiles}
 use Rattle.plane.specs.Refusal.{Lowest}
-use Rattle.plane.specs.Words.{width, height, kinds, pictureOf, roomIn, TableLength}
+use Rattle.plane.specs.Words.{width, height, kinds, pictureOf, roomIn}
 use Rattle.paint.specs.Paint.{tableLike}
 use Rattle.rules.specs.Vetting.{lowestBad}
 use Rattle.rules.specs.Words.{rulesOf, haloOf}
-use Rattle.piece.specs.Calm.{Calm}
-use Rattle.piece.specs.Remark.{Checkable, remarked}
 use Rattle.piece.specs.Rows.{NoMarks}
 use Rattle.checker.specs.declared.check.Ran.{Ran}
 use Rattle.checker.specs.declared.check.Turn.{Turn}
 use Rattle.checker.specs.declared.check.Turn.the-variants as turned
 use Rattle.checker.specs.Check.{Run, stopped, oneMore, checkRun, ranCheck, checkedPiece, pieceFits, checkRefusals, Checked}
-use Rattle.checker.specs.Layout.{Layout, Marks}
+use Rattle.checker.specs.Layout.{Layout}
 use Rattle.checker.specs.Ready.{Fit}
 
 -- a layout and rules that passed their test, and a working room as long
@@ -35,32 +33,15 @@ pub record PieceIn (l : Layout) (work rules : List ℕ) (used bx by : ℕ) : Typ
   pub column : 16 * bx < width (l .material)
   pub row : 16 * by < height (l .material)
 
--- a calm piece, in an area without errors
-pub record NothingNear (material errors : List ℕ) (k bx by : ℕ) (near : Area) : Type 0 where
-  pub calm : Calm (width material) (height material) (pictureOf material) k bx by
-  pub clear : squaresIn (pictureOf errors) 1 near ≡ 0
-
 -- a piece without a mark, in an area without errors
 pub record NothingMarked (errors : List ℕ) (near : Area) (rows : List ℕ) : Type 0 where
   pub none : NoMarks rows
   pub clear : squaresIn (pictureOf errors) 1 near ≡ 0
 
--- a piece to check, the errors of its layout and a working room as long
-pub record ErrorsIn (material errors work rules : List ℕ) (used bx by : ℕ) : Type 0 where
-  pub piece : Checkable material rules used (haloOf rules used) bx by
-  pub room : TableLength (length material)
-  pub marks : Marks material errors
-  pub long : length errors ≡ length material
-  pub working : length work ≡ length material
-
--- the errors after the piece, as pieceErrors
-abbrev pub errorsAfter : List ℕ → List ℕ → List ℕ → ℕ → ℕ → ℕ → Picture
-errorsAfter material errors rules used bx by = remarked (width material) (height material) (pictureOf material) (rulesOf rules used) (haloOf rules used) bx by (pictureOf errors)
-
--- a piece's errors: have they room, and their table afterwards
-pub record ErrorsMarked (material errors rules : List ℕ) (used bx by : ℕ) (r : Bool) (after : List ℕ) : Type 0 where
-  pub fits : r ≡ leb (length (tiles (width errors) (height errors) (errorsAfter material errors rules used bx by))) (roomIn (length material))
-  pub leaves : after ≡ cond r (tableLike errors (errorsAfter material errors rules used bx by)) errors
+-- a table that is to show the picture q: has it room, and its words afterwards
+pub record Remade (ws : List ℕ) (q : Picture) (r : Bool) (after : List ℕ) : Type 0 where
+  pub fits : r ≡ leb (length (tiles (width ws) (height ws) q)) (roomIn (length ws))
+  pub leaves : after ≡ cond r (tableLike ws q) ws
 
 -- a piece: has it room, and the layout afterwards
 pub record PieceTried (l : Layout) (rules : List ℕ) (used bx by : ℕ) (r : Bool) (after : Layout) : Type 0 where

@@ -19,15 +19,21 @@ use plane::words::room_in;
 use rules::list::halo_of;
 ghost use mathlib.Core.Bool.{true};
 ghost use mathlib.Core.Path.{_≡_};
-ghost use Prim.Native.Nat.{ℕ, _*_, _≤_, _<_};
+ghost use lib.ListN.{length};
 ghost use Rattle.plane.specs.Area.{AreaIn};
+ghost use Rattle.plane.specs.Picture.{painted, stamped};
 ghost use Rattle.plane.specs.Plane.{Plane};
-ghost use Rattle.plane.specs.Words.{width, height};
+ghost use Rattle.plane.specs.Words.{width, height, kinds, pictureOf};
+ghost use Rattle.paint.specs.Brush.{Small};
+ghost use Rattle.paint.specs.Tables.{Paintable};
+ghost use Rattle.rules.specs.Words.{rulesOf};
+ghost use Rattle.piece.specs.Remark.{Checkable};
+ghost use Rattle.piece.specs.Rows.{PieceRows};
 ghost use Rattle.checker.specs.Answers.{readyNumber, readyPlace};
 ghost use Rattle.checker.specs.Layout.{lent};
 ghost use Rattle.checker.specs.Check.{Checked};
 ghost use Rattle.checker.specs.Answers.{checkNumber, checkPlace, checkDone, checkLeft};
-ghost use Rattle.checker.specs.CheckSteps.{Runs, NothingNear, NothingMarked, ErrorsIn, ErrorsMarked, PieceIn, PieceTried, Turned, RanTo, RanPieces, CheckTested, CheckedBut};
+ghost use Rattle.checker.specs.CheckSteps.{Runs, NothingMarked, Remade, PieceIn, PieceTried, Turned, RanTo, RanPieces, CheckTested, CheckedBut};
 
 // The answer of check: the pieces done and left, also where a piece found no room (Full); or what the tests refuse.
 pub enum CheckAnswer {
@@ -51,16 +57,15 @@ pub struct Ran {
     pub full: bool,
 }
 
-// Is everything near the piece of one type, and no error recorded within k of its block? near is that area.
-fn nothing_near(material: &[u16], errors: &[u16], bx: u16, by: u16, k: u16, near: Area) -> bool
-    requires { ⌜ Plane (now material) × (16 * bx < width (now material)) × (16 * by < height (now material)) × (k ≤ 16) ⌝ }
-    requires { ⌜ Plane (now errors) × AreaIn (width (now errors)) (height (now errors)) near ⌝ }
-    ensures { λ r. ⌜ (r ≡ true → NothingNear (now (material .entry)) (now (errors .entry)) k bx by near) ⌝ }
+// The marks of the squares within k of the block, k being the halo. Where all is of one type there are none, which takes one look.
+fn near_marks(material: &[u16], rules: &[u16], used: usize, bx: u16, by: u16, k: u16) -> [u64; 48]
+    requires { ⌜ Checkable (now material) (now rules) used k bx by ⌝ }
+    ensures { λ r. ⌜ PieceRows (width (now (material .entry))) (height (now (material .entry))) (pictureOf (now (material .entry))) (rulesOf (now (rules .entry)) used) k bx by r ⌝ }
 {
     if calm(material, bx, by, k) {
-        return count_squares(errors, 1, near) == 0;
+        return [0u64; 48];
     }
-    false
+    piece_rows(material, rules, used, bx, by, k)
 }
 
 // Has the piece no mark, and the area near it no error recorded?
@@ -74,30 +79,18 @@ fn nothing_marked(errors: &[u16], near: Area, rows: [u64; 48]) -> bool
     false
 }
 
-// Marks the errors within the halo of the block; false, with errors as they were, where they have no room. A calm piece costs two
-// looks, and one without a mark where no error is recorded leaves the errors alone.
+// Marks the errors of the area near; false, with errors as they were, where they have no room.
 fn mark_errors(
-    material: &[u16],
     errors: &mut [u16],
+    near: Area,
+    rows: [u64; 48],
     work: &mut [u16],
-    rules: &[u16],
-    used: usize,
-    bx: u16,
-    by: u16,
+    room: usize,
 ) -> bool
-    requires { ⌜ ErrorsIn (now material) (now errors) (now work) (now rules) used bx by ⌝ }
-    ensures { λ r. ⌜ ErrorsMarked (now (material .entry)) (now (errors .entry)) (now (rules .entry)) used bx by r (now (errors .exit)) ⌝ }
+    requires { ⌜ Paintable room (now errors) near ⌝ }
+    requires { ⌜ (Small near) × (length (now work) ≡ length (now errors)) ⌝ }
+    ensures { λ r. ⌜ Remade (now (errors .entry)) (stamped (pictureOf (now (errors .entry))) near rows) r (now (errors .exit)) ⌝ }
 {
-    let k = halo_of(rules, used);
-    let near = near_area(material[1], material[2], bx, by, k);
-    if nothing_near(material, errors, bx, by, k, near) {
-        return true;
-    }
-    let rows = piece_rows(material, rules, used, bx, by, k);
-    if nothing_marked(errors, near, rows) {
-        return true;
-    }
-    let room = room_in(material.len());
     let marked = stamp_into(errors, near, rows, work, room);
     if room < marked {
         return false;
@@ -106,7 +99,22 @@ fn mark_errors(
     true
 }
 
-// Checks the piece at column bx, row by; false, with errors and waiting as they were, where one of them has no room for it.
+// The block waits no more; false, with waiting as it was, where it has no room.
+fn end_waiting(waiting: &mut [u16], block: Area, work: &mut [u16], room: usize) -> bool
+    requires { ⌜ Paintable room (now waiting) block ⌝ }
+    requires { ⌜ (kinds (now waiting) ≡ 2) × (length (now work) ≡ length (now waiting)) ⌝ }
+    ensures { λ r. ⌜ Remade (now (waiting .entry)) (painted (pictureOf (now (waiting .entry))) block 0) r (now (waiting .exit)) ⌝ }
+{
+    let left = paint_into(waiting, block, 0, work, room);
+    if room < left {
+        return false;
+    }
+    copy_all(work, waiting);
+    true
+}
+
+// Checks the piece at column bx, row by; false, with errors and waiting as they were, where one of them has no room for it. A piece
+// without a mark, where no error is recorded, leaves the errors alone: then waiting need not be counted before it is made.
 pub fn check_piece(
     material: &[u16],
     errors: &mut [u16],
@@ -122,16 +130,20 @@ pub fn check_piece(
 {
     let room = room_in(material.len());
     let block = near_area(material[1], material[2], bx, by, 0);
+    let k = halo_of(rules, used);
+    let near = near_area(material[1], material[2], bx, by, k);
+    let rows = near_marks(material, rules, used, bx, by, k);
+    if nothing_marked(errors, near, rows) {
+        return end_waiting(waiting, block, work, room);
+    }
     let drafted = tiles_after(waiting, block, 0, work, room);
     if room < drafted {
         return false;
     }
-    if !mark_errors(material, errors, work, rules, used, bx, by) {
+    if !mark_errors(errors, near, rows, work, room) {
         return false;
     }
-    paint_into(waiting, block, 0, work, room);
-    copy_all(work, waiting);
-    true
+    end_waiting(waiting, block, work, room)
 }
 
 // Checks the lowest waiting piece, if one waits.
