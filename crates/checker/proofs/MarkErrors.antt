@@ -11,8 +11,7 @@ use lib.Pow.{pow-pos, shr-le}
 use borrow.Author.Tests.{eq-eqb, eqb-true, le-leb, lt-leb}
 use Rattle.plane.specs.declared.tile.Area.{Area}
 use Rattle.plane.specs.Area.{AreaIn, squaresIn}
-use Rattle.plane.specs.Checks.{sumTo}
-use Rattle.plane.specs.Picture.{Picture, bitOf, inArea, painted, stamped, table, tiles, written}
+use Rattle.plane.specs.Picture.{Picture, bitOf, inArea, painted, stamped, table, tiles, written, sumTo}
 use Rattle.plane.specs.Plane.{Plane}
 use Rattle.plane.specs.Words.{IsTable, count, height, kinds, pictureOf, roomIn, width}
 use Rattle.plane.proofs.Basics.{bool-cases, lt-or-ge}

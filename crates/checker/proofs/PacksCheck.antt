@@ -6,14 +6,12 @@ use mathlib.Core.Path.{_≡_, refl, sym, ap, subst, subst₂}
 use mathlib.Core.Logic.{_⊎_, inl, inr, ⊎-elim}
 use mathlib.Core.List.{List}
 use lib.Dec.{eqb}
-use Rattle.plane.specs.Checks.{sumTo}
-use Rattle.plane.specs.Picture.{Picture}
+use Rattle.plane.specs.Picture.{Picture, sumTo}
 use Rattle.plane.specs.Refusal.{Lowest}
 use Rattle.plane.specs.Words.{height, kinds, pictureOf, width}
 use Rattle.rules.specs.declared.rule.Rule.{Rule}
 use Rattle.rules.specs.Vetting.{lowestBad}
 use Rattle.rules.specs.Words.{haloOf, rulesOf}
-use Rattle.rules.proofs.Vetted.{lowest}
 use Rattle.piece.specs.declared.waits.Block.{Block}
 use Rattle.piece.specs.declared.waits.Block.the-variants.{At, Nothing}
 use Rattle.piece.specs.Pieces.{blocks, pieceWaits, pieces, waitingPieces}

@@ -10,8 +10,7 @@ use lib.Dec.{eqb}
 use lib.ListN.{length, length-append}
 use Rattle.plane.specs.declared.tile.Area.{Area}
 use Rattle.plane.specs.Area.{meets, squaresIn, tilesIn}
-use Rattle.plane.specs.Checks.{sumTo}
-use Rattle.plane.specs.Picture.{Picture, joined}
+use Rattle.plane.specs.Picture.{Picture, joined, sumTo}
 use Rattle.plane.specs.Point.{pointRefusals, Pointed}
 use Rattle.plane.specs.Refusal.{Lowest, Outcome}
 use Rattle.plane.specs.Words.{count, width, height, kinds, tileOf, pictureOf, roomIn}
@@ -20,7 +19,7 @@ use Rattle.plane.proofs.FromTable.{table-plane}
 use Rattle.plane.proofs.Lowests.{all-hold}
 use Rattle.plane.proofs.ToTable.{named}
 use Rattle.rules.specs.declared.rule.Rule.{Rule}
-use Rattle.rules.specs.Expansion.{RuleList, refused, appended, macroRefusals, Expanded}
+use Rattle.rules.specs.Expansion.{RuleList, macroRefusals, Expanded}
 use Rattle.rules.specs.Vetting.{AllSound, lowestBad}
 use Rattle.rules.specs.Words.{haloOf}
 use Rattle.rules.proofs.Vetted.{lowest}

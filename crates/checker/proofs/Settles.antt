@@ -8,8 +8,7 @@ use lib.Dec.{eqb}
 use borrow.Author.Tests.{eq-eqb, ne-eqb, eqb-true}
 use Rattle.plane.specs.declared.tile.Area.{Area}
 use Rattle.plane.specs.Area.{squaresIn}
-use Rattle.plane.specs.Checks.{sumTo}
-use Rattle.plane.specs.Picture.{Picture}
+use Rattle.plane.specs.Picture.{Picture, sumTo}
 use Rattle.plane.specs.Words.{width, height, pictureOf}
 use Rattle.plane.proofs.Counting.{none-of, sum-none}
 use Rattle.checker.specs.Report.{around, settled}

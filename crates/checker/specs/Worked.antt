@@ -7,8 +7,7 @@ use mathlib.Core.List.{List, [], _∷_}
 use lib.Dec.{eqb, leb}
 use lib.ListN.{length}
 use Rattle.plane.specs.declared.tile.Area.{Area}
-use Rattle.plane.specs.Checks.{sumTo}
-use Rattle.plane.specs.Picture.{Picture, joined, extent, area, painted, tiles, table}
+use Rattle.plane.specs.Picture.{Picture, joined, extent, area, painted, tiles, table, sumTo}
 use Rattle.plane.specs.Words.{pictureOf, upTo, kindIn}
 use Rattle.paint.specs.Paint.{paintedOf}
 use Rattle.rules.specs.declared.rule.Rule.{Rule}

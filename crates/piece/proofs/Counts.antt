@@ -6,8 +6,7 @@ use mathlib.Core.Path.{_≡_, refl, sym, _∙_, ap}
 use mathlib.Core.Logic.{_⊎_, inl, inr, ⊎-elim}
 use borrow.Author.Tests.{lt-ltb}
 use Rattle.plane.specs.declared.tile.Area.{Area}
-use Rattle.plane.specs.Checks.{sumTo}
-use Rattle.plane.specs.Picture.{Picture, inArea, painted}
+use Rattle.plane.specs.Picture.{Picture, inArea, painted, sumTo}
 use Rattle.plane.proofs.Basics.{bool-cases, eq-or-ne}
 use Rattle.plane.proofs.Counting.{none-of, sum-eq, sum-less, sum-none, sum-split}
 use Rattle.rules.proofs.Searches.{same-truth}

@@ -7,8 +7,7 @@ use mathlib.Core.Path.{_≡_, refl, sym, _∙_, ap}
 use mathlib.Core.Logic.{_⊎_, inl, inr, ⊎-elim}
 use lib.ListN.{length, getD, replicate, length-replicate, getD-replicate}
 use Rattle.plane.specs.declared.tile.Tile.{Tile}
-use Rattle.plane.specs.Picture.{Picture}
-use Rattle.plane.specs.Checks.{sumTo}
+use Rattle.plane.specs.Picture.{Picture, sumTo}
 use Rattle.plane.specs.Strips.{Holds}
 use Rattle.plane.specs.Words.{count, width, height, word, tileOf, pictureOf}
 use Rattle.plane.specs.Plane.{Plane}

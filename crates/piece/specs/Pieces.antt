@@ -5,8 +5,7 @@ use mathlib.Core.Path.{_≡_}
 use mathlib.Core.Logic.{_⊎_}
 use lib.Dec.{eqb, ltb}
 use Rattle.plane.specs.declared.tile.Area.{Area}
-use Rattle.plane.specs.Picture.{Picture, extent, inArea}
-use Rattle.plane.specs.Checks.{sumTo}
+use Rattle.plane.specs.Picture.{Picture, extent, inArea, sumTo}
 use Rattle.rules.specs.Some.{some}
 use Rattle.piece.specs.declared.waits.Block.{Block}
 use Rattle.piece.specs.declared.waits.Block.the-variants.{At, Nothing}

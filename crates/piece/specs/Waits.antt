@@ -4,7 +4,7 @@ use mathlib.Core.List.{List}
 use mathlib.Core.Path.{_≡_}
 use lib.ListN.{length, getD}
 use Rattle.plane.specs.declared.tile.Tile.{Tile}
-use Rattle.plane.specs.Checks.{sumTo}
+use Rattle.plane.specs.Picture.{sumTo}
 use Rattle.plane.specs.Words.{word, tileOf}
 
 -- the tile waits and shares a square with the piece

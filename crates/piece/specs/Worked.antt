@@ -1,8 +1,7 @@
 -- The order of pieces and the pieces that an area touches, by computing, for the 40 by 20 line of document 01: paint 15 0 17 1 1.
 use Prim.Native.Nat.{ℕ}
 use mathlib.Core.Path.{_≡_, refl}
-use Rattle.plane.specs.Picture.{Picture, space, area, inArea, painted, extent}
-use Rattle.plane.specs.Checks.{sumTo}
+use Rattle.plane.specs.Picture.{Picture, space, area, inArea, painted, extent, sumTo}
 use Rattle.rules.specs.Some.{some}
 use Rattle.piece.specs.declared.waits.Block.the-variants.{At, Nothing}
 use Rattle.piece.specs.Pieces.{someIn, pieces, inWindow, waitsAt, pieceWaits, touches, touched, lowestPiece, lowestBlock}

@@ -10,7 +10,7 @@ use lib.Dec.{leb, ltb}
 use borrow.Author.Tests.{le-leb, lt-ltb, lt-leb, le-ltb}
 use Rattle.plane.specs.declared.tile.Tile.{Tile}
 use Rattle.plane.specs.Strips.{Box, Holds}
-use Rattle.plane.specs.Checks.{sumTo}
+use Rattle.plane.specs.Picture.{sumTo}
 use Rattle.plane.proofs.Basics.{lt-or-ge, eq-or-ne, and-both}
 
 pub sum-eq : (n : ℕ) (f g : ℕ → ℕ) → ((i : ℕ) → i < n → f i ≡ g i) → sumTo n f ≡ sumTo n g

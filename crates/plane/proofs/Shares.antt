@@ -8,7 +8,7 @@ use lib.Dec.{eqb}
 use Rattle.plane.specs.declared.tile.Area.{Area}
 use Rattle.plane.specs.Words.{count, width, height, word, tileOf, pictureOf}
 use Rattle.plane.specs.Plane.{Plane}
-use Rattle.plane.specs.Checks.{sumTo}
+use Rattle.plane.specs.Picture.{sumTo}
 use Rattle.plane.specs.Area.{AreaIn, squaresIn, shared}
 use Rattle.plane.proofs.Counting.{sum-eq, hits, all-hits, one-hit}
 use Rattle.plane.proofs.ToTable.{shown}

@@ -1,15 +1,13 @@
 -- Squares and tiles of a type in an area.
 use Prim.Native.Nat.{ℕ, _+_, _-_, _*_, _≤_, _<_, min, max}
-use mathlib.Core.Path.{_≡_}
 use mathlib.Core.Bool.{Bool, cond, _&&_}
 use mathlib.Core.List.{List, [], _∷_}
 use lib.ListN.{length}
 use lib.Dec.{eqb, ltb}
 use Rattle.plane.specs.declared.tile.Tile.{Tile}
 use Rattle.plane.specs.declared.tile.Area.{Area}
-use Rattle.plane.specs.Picture.{Picture, joined}
+use Rattle.plane.specs.Picture.{Picture, joined, sumTo}
 use Rattle.plane.specs.Words.{count, width, height, tileOf, pictureOf, TableLength, PictureTable}
-use Rattle.plane.specs.Checks.{sumTo}
 use Rattle.plane.specs.Listing.{Fits, unlisted, listing}
 use Rattle.plane.specs.Refusal.{_unless_, Outcome}
 

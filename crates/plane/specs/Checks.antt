@@ -1,12 +1,12 @@
 -- What each check of a table's words finds: steps of `vet`, which no reader of its promise needs.
-use Prim.Native.Nat.{ℕ, zero, suc, _+_, _-_, _*_, _≤_, _<_}
+use Prim.Native.Nat.{ℕ, _-_, _*_, _≤_, _<_}
 use mathlib.Core.Path.{_≡_}
 use mathlib.Core.List.{List}
-use lib.ListN.{length, getD}
 use Rattle.plane.specs.declared.tile.Tile.{Tile}
+use Rattle.plane.specs.Picture.{sumTo}
 use Rattle.plane.specs.Strips.{Box}
 use Rattle.plane.specs.Plane.{Boxes, InOrder, Stitches, ZeroAfter}
-use Rattle.plane.specs.Words.{count, width, height, kinds, word, tileOf}
+use Rattle.plane.specs.Words.{count, width, height, word}
 
 -- a tile's own numbers
 pub record Boxed (w h k : ℕ) (a : Tile) : Type 0 where
@@ -40,11 +40,6 @@ pub record Framed (ws : List ℕ) (i : ℕ) : Type 0 where
 -- those of each tile
 abbrev pub Frames : List ℕ → Type 0
 Frames ws = (i : ℕ) → i < count ws → Framed ws i
-
--- f 0 + .. + f (n - 1)
-unfoldable pub sumTo : ℕ → (ℕ → ℕ) → ℕ
-sumTo zero f = 0
-sumTo (suc n) f = sumTo n f + f n
 
 -- how many squares tile i has
 abbrev pub squaresOf : List ℕ → ℕ → ℕ

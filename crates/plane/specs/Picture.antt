@@ -52,6 +52,11 @@ unfoldable pub joined : {A : Type 0} → ℕ → (ℕ → List A) → List A
 joined zero f = []
 joined (suc n) f = joined n f ++ f n
 
+-- f 0 + .. + f (n - 1)
+unfoldable pub sumTo : ℕ → (ℕ → ℕ) → ℕ
+sumTo zero f = 0
+sumTo (suc n) f = sumTo n f + f n
+
 -- the strip that begins at (x,y), if one does
 unfoldable pub cell : ℕ → ℕ → Picture → ℕ → ℕ → List Tile
 unfolding corner stripTop runEnd

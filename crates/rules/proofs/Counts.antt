@@ -8,8 +8,7 @@ use native.Mathlib.Nat.{add-mul, zero-mul}
 use lib.ListN.{length, length-append}
 use lib.Dec.{eqb, leb}
 use lib.Count.{ones}
-use Rattle.plane.specs.Checks.{sumTo}
-use Rattle.plane.specs.Picture.{joined}
+use Rattle.plane.specs.Picture.{joined, sumTo}
 use Rattle.plane.proofs.Basics.{and-left}
 use Rattle.plane.proofs.Counting.{sum-eq}
 use Rattle.rules.specs.declared.macros.Made.{Made}

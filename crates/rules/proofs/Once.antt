@@ -5,7 +5,6 @@ use mathlib.Core.Bool.{Bool, cond}
 use mathlib.Core.List.{List}
 use mathlib.Core.Path.{_≡_, refl, sym, _∙_, ap, ap₂}
 use lib.Dec.{eqb}
-use Rattle.plane.specs.declared.answer.Refusal.the-variants.{Lengths, Sizes}
 use Rattle.plane.specs.Refusal.{lowest-once, outcome-once}
 use Rattle.plane.proofs.Lowests.{refusal-positive}
 use Rattle.plane.proofs.Once.{refusal-once}

@@ -9,7 +9,7 @@ use lib.Dec.{eqb}
 use lib.Pow.{pow-pos}
 use lib.Count.{ones, ones-step, ones-le}
 use borrow.Author.Tests.{eqb-true, eq-eqb, ne-eqb}
-use Rattle.plane.specs.Checks.{sumTo}
+use Rattle.plane.specs.Picture.{sumTo}
 use Rattle.plane.proofs.Basics.{and-both}
 use Rattle.plane.proofs.Counting.{sum-eq}
 use Rattle.rules.specs.Sets.{member, within, others, both}

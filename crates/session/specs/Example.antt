@@ -1,7 +1,7 @@
 -- Document 01's example session, by computation: what the program writes on its input (crates/session/stdin) is its output (crates/session/stdout).
 use mathlib.Core.Path.{_≡_, refl}
 use mathlib.Core.List.{[], _∷_}
-use Rattle.plane.specs.Picture.{extent, table, tiles, painted}
+use Rattle.plane.specs.Picture.{extent, table, tiles, painted, sumTo}
 use Rattle.plane.specs.Words.{kindIn, upTo}
 use Rattle.plane.specs.Area.{squaresIn, tilesIn}
 use Rattle.rules.specs.Macros.{width, widthSound, spacing, spacingSound}
@@ -10,7 +10,6 @@ use Rattle.piece.specs.Pieces.{lowestBlock, lowestPiece, waitingPieces, pieceWa
 use Rattle.piece.specs.Remark.{remarked, nearBlock}
 use Rattle.rules.specs.Forbid.{forbidden}
 use Rattle.rules.specs.Some.{some}
-use Rattle.plane.specs.Checks.{sumTo}
 use Rattle.checker.specs.Check.{checkRun}
 use Rattle.checker.specs.Report.{settled}
 use Rattle.text.specs.Number.{digits, valueFrom}

@@ -3,7 +3,6 @@ use borrow.Author.Needs.{needs}
 use Rattle.desk.proofs.Rulings.{macro-comes}
 use Rattle.desk.proofs.MadeSound.{width-made}
 use Rattle.desk.proofs.Draws.{comes-as}
-use Rattle.rules.specs.Macros.{width}
 use Rattle.desk.proofs.ruling.add_width.Statement.{statement}
 use Rattle.desk.proofs.ruling.add_width.Tie as tie
 

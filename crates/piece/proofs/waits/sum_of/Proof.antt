@@ -1,6 +1,6 @@
 -- `sum_of`. Each turn adds one column more; a column is below 256, so the sum fits.
 use lib.ListN.{getD}
-use Rattle.plane.specs.Checks.{sumTo}
+use Rattle.plane.specs.Picture.{sumTo}
 use Rattle.plane.proofs.Counting.{sum-more}
 use Rattle.piece.specs.Waits.{sumOf}
 use native.Mathlib.Omega.{arith}

@@ -1,6 +1,6 @@
 -- `waiting_pieces`. Each turn adds the waiting pieces of one row more, at most 256.
 use Rattle.piece.proofs.Waited.{rowWaiting, row-is, rows-none, rows-all}
-use Rattle.plane.specs.Checks.{sumTo}
+use Rattle.plane.specs.Picture.{sumTo}
 use Rattle.plane.proofs.Counting.{sum-more}
 use Rattle.plane.specs.Words.{width, height, pictureOf}
 use native.Mathlib.Omega.{arith}

@@ -4,7 +4,7 @@ use native.Mathlib.Omega.{arith}
 use mathlib.Core.Path.{_≡_, refl, _∙_}
 use borrow.Author.Needs.{needs}
 use Rattle.plane.specs.Area.{shared}
-use Rattle.plane.specs.Checks.{sumTo}
+use Rattle.plane.specs.Picture.{sumTo}
 use Rattle.plane.specs.Words.{count, tileOf}
 use Rattle.plane.proofs.Counting.{sum-more}
 use Rattle.plane.proofs.Shares.{shares-add-up}

@@ -4,7 +4,8 @@ use native.Mathlib.Omega.{arith}
 use mathlib.Core.Path.{_≡_, refl}
 use borrow.Author.Needs.{needs}
 use Rattle.plane.specs.Words.{count}
-use Rattle.plane.specs.Checks.{squaresOf, areas, sumTo}
+use Rattle.plane.specs.Checks.{squaresOf, areas}
+use Rattle.plane.specs.Picture.{sumTo}
 use native.Mathlib.Numerals.{add-one}
 use Rattle.plane.proofs.vet.area_sum.Statement.{statement}
 use Rattle.plane.proofs.vet.area_sum.Tie as tie

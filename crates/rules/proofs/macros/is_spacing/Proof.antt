@@ -1,5 +1,4 @@
 -- `is_spacing`. The code is the definition, with the answer of `disjoint`.
-use Rattle.rules.specs.Sets.{disjoint}
 use Rattle.rules.specs.Macros.{spacingSound}
 use borrow.Author.Needs.{needs}
 use Rattle.rules.proofs.macros.is_spacing.Statement.{statement}
