@@ -22,7 +22,7 @@ STRICT = -std=c99 -Wall -Wextra -Wpedantic -Werror
 CFLAGS = -O2 -g
 
 NAIVE = build/naive_plane.o build/naive_rules.o build/naive_layout.o
-SOURCES := $(shell find crates/plane crates/paint crates/rules crates/piece crates/checker -name '*.rt' -o -name '*.antt')
+SOURCES := $(shell find crates/plane crates/paint crates/rules crates/piece crates/checker crates/layout -name '*.rt' -o -name '*.antt')
 
 SIDE_BY_SIDE = paste crates/session/stdin - | awk -F '\t' '{ printf "%-24s %s\n", $$1, $$2 }'
 
@@ -53,8 +53,8 @@ lib: build/liblayout.a build/layout.h build/layout.pc
 
 build/liblayout.a: $(SOURCES) crates.txt
 	@mkdir -p build
-	@rt staticlib checker > build/staticlib.log 2>&1 || { cat build/staticlib.log; exit 1; }
-	@cp target/staticlib/libchecker.a $@
+	@rt staticlib layout > build/staticlib.log 2>&1 || { cat build/staticlib.log; exit 1; }
+	@cp target/staticlib/liblayout.a $@
 
 build/layout.h: include/layout.h
 	@mkdir -p build

@@ -15,9 +15,8 @@ use Rattle.piece.specs.declared.waits.Block.the-variants.{At, Nothing}
 use Rattle.piece.specs.Pieces.{waitingPieces}
 use Rattle.piece.proofs.Blocks.{lowest-block}
 use Rattle.piece.proofs.Counts.{cleared-pieces, no-pieces}
-use Rattle.checker.specs.Check.{Run, afterBlock, checkRun, checkedPiece, fitsBlock, lowestOf, pieceFits, pieceWaiting, turn}
+use Rattle.checker.specs.Check.{Run, afterBlock, checkRun, checkedPiece, fitsBlock, lowestOf, pieceFits, pieceWaiting, turn, waitingOf}
 use Rattle.checker.specs.CheckSteps.{PieceIn}
-use Rattle.checker.specs.History.{waitingOf}
 use Rattle.checker.specs.Layout.{Layout}
 use Rattle.checker.specs.Ready.{Fit}
 use Rattle.checker.proofs.OnePiece.{checked-fit, waiting-show}

@@ -46,6 +46,10 @@ pieceFits l rs k bx by =
 abbrev pub lowestOf : Layout → Block
 lowestOf l = lowestBlock (width (l .waiting)) (height (l .waiting)) (pictureOf (l .waiting))
 
+-- how many pieces of a layout wait
+abbrev pub waitingOf : Layout → ℕ
+waitingOf l = waitingPieces (width (l .waiting)) (height (l .waiting)) (pictureOf (l .waiting))
+
 -- what a run leaves: 0, or 7 for want of room at a piece; the pieces done; the layout
 pub record Run : Type 0 where
   pub number : ℕ
@@ -98,7 +102,7 @@ abbrev pub ranCheck : Run → CheckLeft
 ranCheck r = record {
   number = r .number;
   done = r .done;
-  left = waitingPieces (width (r .layout .waiting)) (height (r .layout .waiting)) (pictureOf (r .layout .waiting));
+  left = waitingOf (r .layout);
   layout = r .layout;
 }
 

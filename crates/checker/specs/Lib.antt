@@ -1,4 +1,4 @@
--- What the contracts of the checker cite: layouts, what each call makes and when it says no, and the numbers that C is given.
+-- What the contracts of the checker cite: layouts, what each call makes, and when it says no.
 pub mod Layout
 pub mod Ready
 pub mod Create
@@ -8,6 +8,3 @@ pub mod CheckSteps
 pub mod Report
 pub mod Answers
 pub mod Steps
-pub mod Pack
-pub mod History
-pub mod Worked

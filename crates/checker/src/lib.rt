@@ -1,5 +1,4 @@
-// A layout of three tables, material, errors and waiting: made, painted and reported on, and the calls as C sees them.
-pub mod c;
+// A layout of three tables, material, errors and waiting: made, painted, checked and reported on.
 pub mod check;
 pub mod create;
 pub mod painting;
