@@ -2,3 +2,5 @@
 pub mod Chunks
 pub mod Steps
 pub mod Feeds
+pub mod Wires
+pub mod Turns

@@ -24,8 +24,8 @@ use Rattle.desk.specs.Model as desk
 use Rattle.session.specs.declared.feed.Fed.{Fed}
 use Rattle.session.specs.declared.state.Ended.{Ended}
 use Rattle.session.specs.declared.state.State.{State}
-use Rattle.session.specs.Held.{Store, Blank, Holds, Safe, Reached, LineEnded, Stepped}
-use Rattle.session.specs.Session.{Model, zeros, commandIn, answerTo, ended, longer, saidTo, stepped, spoken, begun, fed, lastWords}
+use Rattle.session.specs.Held.{Store, Blank, Holds, Safe, LineEnded, Stepped}
+use Rattle.session.specs.Session.{Model, start, zeros, commandIn, answerTo, ended, longer, saidTo, stepped, spoken, begun, lastWords}
 
 -- ---- the line that was read
 module _ (l : Line) (p : List ℕ) (R : Reads l p) where
@@ -70,12 +70,9 @@ module _ (l : Line) (S : Sound l) (R : Reads l []) (t : Store) (B : Blank t) whe
     desk = record { tables = blank-tables B; working = B .working; list = B .list; used = omega arith; fit = λ e. let z : _≡_ {A = ℕ} 0 1 = cc in absurd (omega arith) };
   }
 
-  pub start-reached : Reached (record { text = l; desk = record { ready = false; painted = false; used = 0 }; lines = 0 }) t
-  unfolding fed rulesOf joined
-  start-reached = record {
-    taken = [];
-    holds = record { reads = R; desk = ap (λ (x : Layout). record { ready = false; painted = false; layout = x; rules = [] }) (B .layout); lines = refl };
-  }
+  pub start-holds : Holds (record { text = l; desk = record { ready = false; painted = false; used = 0 }; lines = 0 }) t start
+  unfolding rulesOf joined
+  start-holds = record { reads = R; desk = ap (λ (x : Layout). record { ready = false; painted = false; layout = x; rules = [] }) (B .layout); lines = refl }
 
 -- ---- a line ends
 module _ {s : State} {t : Store} {l : Line} {r : Answered} {l′ : Layout} {work ws : List ℕ} {line : ℕ} {c : Command}

@@ -1,5 +1,6 @@
 -- How the program's state and slices hold the session, and what each function does to them.
-use Prim.Native.Nat.{ℕ, _+_, _≤_}
+use Prim.Native.Nat.{ℕ, _+_, _*_, _^_, _≤_, _<_}
+use mathlib.Core.Bool.{true}
 use mathlib.Core.Path.{_≡_}
 use mathlib.Core.List.{List, _++_}
 use lib.ListN.{length, take}
@@ -9,7 +10,10 @@ use Rattle.desk.specs.Kept.{modelOf, Kept}
 use Rattle.session.specs.declared.state.Ended.{Ended}
 use Rattle.session.specs.declared.state.State.{State}
 use Rattle.session.specs.declared.feed.Fed.{Fed}
-use Rattle.session.specs.Session.{Model, start, zeros, ended, answerTo, stepped, spoken, fed, output}
+use Rattle.session.specs.declared.wire.Wire.{Wire}
+use Rattle.session.specs.declared.Turn.{Turn}
+use Rattle.session.specs.Wire.{Passed, heardIn, saidIn, Carried}
+use Rattle.session.specs.Session.{Model, zeros, ended, answerTo, stepped, spoken, fed, output, written, exchange, talk}
 
 -- the words of the five lent slices
 pub record Store : Type 0 where
@@ -48,19 +52,27 @@ pub record Stepped (s : State) (t : Store) (out : List ℕ) (n b : ℕ) (r : Fed
 pub record Took (s : State) (t : Store) (chunk : List ℕ) (r : State) (n : ℕ) (t′ : Store) (out : List ℕ) : Type 0 where
   pub safe : Safe r t′
   pub lines : r .lines ≤ s .lines + length chunk
+  pub most : n ≤ length chunk * 80
   pub within : n ≤ length out
   pub holds : (m : Model) → Holds s t m → Holds r t′ (fed m chunk) × (take n out ≡ output m chunk)
 
--- one read: a chunk came and was taken, of no bytes at the end of the input
-pub record ReadOn (s : State) (t : Store) (r : State) (n : ℕ) (t′ : Store) (out : List ℕ) : Type 0 where
+-- a turn: a chunk was heard and taken, and the replies to the lines that end in it were said; an open wire has heard some bytes
+pub record Turned (s : State) (t : Store) (w : Wire) (r : Turn) (t′ : Store) : Type 0 where
   pub chunk : List ℕ
   pub few : length chunk ≤ 512
-  pub took : Took s t chunk r n t′ out
+  pub some : r .wire .open ≡ true → 0 < length chunk
+  pub safe : Safe (r .state) t′
+  pub lines : r .state .lines ≤ s .lines + 512
+  pub ins : r .wire .heard ≤ w .heard + 512
+  pub outs : r .wire .said ≤ w .said + 40960
+  pub holds : (m : Model) → Holds s t m → Holds (r .state) t′ (fed m chunk) × ((log : List Passed) → Carried w log → Carried (r .wire) (log ++ exchange m chunk))
 
--- the bytes taken since the start have led here
-pub record Reached (s : State) (t : Store) : Type 0 where
-  pub taken : List ℕ
-  pub holds : Holds s t (fed start taken)
+-- the whole session: what was said is what `written` says of what was heard, and it ended since the wire was closed, or after 2^48 bytes
+pub record Conversed (w : Wire) : Type 0 where
+  pub chunks : List (List ℕ)
+  pub passed : Carried w (talk chunks)
+  pub answers : saidIn (talk chunks) ≡ written (heardIn (talk chunks))
+  pub ended : w .open ≡ true → 2 ^ 48 ≤ length (heardIn (talk chunks))
 
 -- slices as main owns them
 pub record Blank (t : Store) : Type 0 where

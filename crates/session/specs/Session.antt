@@ -12,6 +12,7 @@ use Rattle.commands.specs.declared.command.Command.{Command}
 use Rattle.commands.specs.declared.command.Command.the-variants.{Nothing}
 use Rattle.commands.specs.declared.reply.Reply.{Reply}
 use Rattle.desk.specs.Model as desk
+use Rattle.session.specs.Wire.{Passed, heard, said}
 
 -- the bytes of the line so far, the desk, and how many lines have ended
 pub record Model : Type 0 where
@@ -82,7 +83,15 @@ unfoldable pub whole : List (List ℕ) → List ℕ
 whole [] = []
 whole (c ∷ cs) = c ++ whole cs
 
--- what is handed to write: at each chunk the replies to the lines that end in it, and at the end that to a last line without its line end
-unfoldable pub handed : Model → List (List ℕ) → List ℕ
-handed m [] = lastWords m
-handed m (c ∷ cs) = output m c ++ handed (fed m c) cs
+-- a chunk is heard, and then the replies to the lines that end in it are said
+abbrev pub exchange : Model → List ℕ → List Passed
+exchange m c = heard c ∷ said (output m c) ∷ []
+
+-- chunk after chunk
+unfoldable pub exchanges : Model → List (List ℕ) → List Passed
+exchanges m [] = []
+exchanges m (c ∷ cs) = exchange m c ++ exchanges (fed m c) cs
+
+-- all that passes over the wire: at the end the reply to a last line without its line end is said
+abbrev pub talk : List (List ℕ) → List Passed
+talk cs = exchanges start cs ++ (said (lastWords (fed start (whole cs))) ∷ [])

@@ -94,7 +94,7 @@ pub fn finish(
     s: State,
 ) -> usize
     requires { ⌜ (Safe s (store (now material) (now errors) (now waiting) (now work) (now rules))) × (s .lines + 1 < 2 ^ 64) × (80 ≤ length (now out)) ⌝ }
-    ensures { λ r. ⌜ (r ≤ length (now (out .exit))) × ((m : Model) → Holds s (store (now (material .entry)) (now (errors .entry)) (now (waiting .entry)) (now (work .entry)) (now (rules .entry))) m → take r (now (out .exit)) ≡ lastWords m) ⌝ }
+    ensures { λ r. ⌜ (r ≤ 80) × ((m : Model) → Holds s (store (now (material .entry)) (now (errors .entry)) (now (waiting .entry)) (now (work .entry)) (now (rules .entry))) m → take r (now (out .exit)) ≡ lastWords m) ⌝ }
 {
     let l = s.text;
     if pending(l) {

@@ -1,28 +1,32 @@
 // The session: lines from standard input, and a reply to each on standard output, as soon as its line has come.
-// What is proved: the machine of specs/Session takes the bytes that the reads delivered, in their order and however they were cut, and after each
-// read `out` begins with just the replies to the lines that ended in it; at the end of the input it begins with the reply to a last line without line end.
-// What is left to trust: that read delivers the input and that write puts out the bytes that it is handed; no contract of libc says so.
+// What is proved: what is said over the wire is what `written` (specs/Session) says of what is heard, byte for byte and however the reads cut it, and the replies to the
+// lines that end in a read are said before the next (Conversed, specs/Held). wire.rt has the two ends of the wire, and says what is left to trust.
 // A write that fails ends the reading. The system ends a process that writes to a pipe without a reader (SIGPIPE), unless its parent has it ignore that signal.
 mod feed;
 mod state;
+mod wire;
 
 use crate::feed::feed;
 use crate::feed::finish;
 use crate::state::State;
 use crate::state::started;
+use crate::wire::Wire;
+use crate::wire::hear;
+use crate::wire::is_open;
+use crate::wire::say;
+use crate::wire::unused;
 ghost use Prim.Native.Nat.{_+_, _≤_, _<_, _^_};
 ghost use lib.ListN.{length};
-ghost use Rattle.session.specs.Held.{store, Blank, Safe, ReadOn};
+ghost use Rattle.session.specs.Held.{store, Blank, Safe, Turned, Conversed};
 
-// The state after a read, how many bytes of replies it led to, and whether to go on.
+// The state and the wire after a turn.
 pub struct Turn {
     pub state: State,
-    pub n: usize,
-    pub more: bool,
+    pub wire: Wire,
 }
 
-// Reads once, takes what came, and writes the replies.
-fn read_some(
+// Reads once, takes what came, and writes the replies. At the end of the input it takes and writes nothing.
+fn take_turn(
     material: &mut [u16],
     errors: &mut [u16],
     waiting: &mut [u16],
@@ -30,28 +34,23 @@ fn read_some(
     rules: &mut [u16],
     out: &mut [u8],
     s: State,
+    w: Wire,
 ) -> Turn
-    requires { ⌜ (Safe s (store (now material) (now errors) (now waiting) (now work) (now rules))) × (s .lines + 513 < 2 ^ 64) × (40960 ≤ length (now out)) ⌝ }
-    ensures { λ r. ⌜ ReadOn s (store (now (material .entry)) (now (errors .entry)) (now (waiting .entry)) (now (work .entry)) (now (rules .entry))) (r .state) (r .n) (store (now (material .exit)) (now (errors .exit)) (now (waiting .exit)) (now (work .exit)) (now (rules .exit))) (now (out .exit)) ⌝ }
+    requires { ⌜ (Safe s (store (now material) (now errors) (now waiting) (now work) (now rules))) × (s .lines + 513 < 2 ^ 64) × (40960 ≤ length (now out)) × (w .heard + 512 < 2 ^ 64) × (w .said + 40960 < 2 ^ 64) ⌝ }
+    ensures { λ r. ⌜ Turned s (store (now (material .entry)) (now (errors .entry)) (now (waiting .entry)) (now (work .entry)) (now (rules .entry))) w r (store (now (material .exit)) (now (errors .exit)) (now (waiting .exit)) (now (work .exit)) (now (rules .exit))) ⌝ }
 {
     let mut buf = [0u8; 512];
-    let got = libc::read(0, &mut buf);
-    if got <= 0 {
-        return Turn {
-            state: s,
-            n: 0,
-            more: false,
-        };
-    }
-    let k = io::count(got, &buf);
+    let h = hear(&mut buf, w);
+    let k = h.k;
     let f = feed(material, errors, waiting, work, rules, out, s, &buf[..k]);
     let n = f.n;
-    let more = io::write_all(1, &out[..n]);
+    let wire = h.wire;
+    let wire = say(&out[..n], wire);
     let state = f.state;
-    Turn { state, n, more }
+    Turn { state, wire }
 }
 
-// Reads to the end of the input. A proved loop has to end, so it counts its turns down, from a number that no run uses up.
+// Reads until the wire is closed. A proved loop has to end, so it counts its turns down, from a number that no run uses up.
 fn run(
     material: &mut [u16],
     errors: &mut [u16],
@@ -59,20 +58,21 @@ fn run(
     work: &mut [u16],
     rules: &mut [u16],
     out: &mut [u8],
-)
+) -> Wire
     requires { ⌜ (Blank (store (now material) (now errors) (now waiting) (now work) (now rules))) × (40960 ≤ length (now out)) ⌝ }
+    ensures { λ r. ⌜ Conversed r ⌝ }
 {
     let mut st = started();
-    let mut turns: u64 = 1125899906842624;
-    let mut more = true;
-    while more {
-        let t = read_some(material, errors, waiting, work, rules, out, st);
+    let mut w = unused();
+    let mut turns: u64 = 281474976710656;
+    while is_open(w) & (turns != 0) {
+        let t = take_turn(material, errors, waiting, work, rules, out, st, w);
         st = t.state;
+        w = t.wire;
         turns -= 1;
-        more = t.more & (turns != 0);
     }
     let n = finish(material, errors, waiting, work, rules, out, st);
-    io::write_all(1, &out[..n]);
+    say(&out[..n], w)
 }
 
 fn main() {

@@ -13,8 +13,8 @@ ghost use mathlib.Core.Path.{_≡_};
 ghost use Prim.Native.Nat.{ℕ, _+_, _<_, _^_};
 ghost use Rattle.text.specs.Line.{Reads, Sound};
 ghost use Rattle.commands.specs.Command.{commandOf};
-ghost use Rattle.session.specs.Session.{commandIn};
-ghost use Rattle.session.specs.Held.{Store, store, Blank, Safe, Reached, LineEnded};
+ghost use Rattle.session.specs.Session.{start, commandIn};
+ghost use Rattle.session.specs.Held.{Store, store, Blank, Holds, Safe, LineEnded};
 
 pub struct State {
     pub text: Line,
@@ -36,7 +36,7 @@ pub struct Ended {
 
 // Nothing has been read.
 pub fn started() -> State
-    ensures { λ r. ⌜ (r .lines ≡ 0) × ((t : Store) → Blank t → Safe r t × Reached r t) ⌝ }
+    ensures { λ r. ⌜ (r .lines ≡ 0) × ((t : Store) → Blank t → Safe r t × Holds r t start) ⌝ }
 {
     let text = fresh();
     let desk = Desk {

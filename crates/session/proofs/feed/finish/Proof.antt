@@ -31,7 +31,7 @@ same-length-6 : tie.Need-same-length-6
 same-length-6 c = search needs
 
 returns : tie.Need-returns
-returns c = (omega (arith, c .before .before .before .before .before .before .before .before .before .before .before .before .step .ensures .most, c .before .before .before .before .before .before .before .before .before .before .before .before .step .kept .1 .1 .1 .1 .1 .0, c .before .before .before .before .before .before .before .before .before .before .before .before .before .before .before .before .before .before .before .before .before .before .before .before .before .before .before .before .pre .2), last-some (c .before .before .before .before .before .before .before .before .before .before .before .before .step .result) (λ p R. sym (c .before .before .before .before .before .before .before .before .before .before .before .before .before .before .before .before .before .before .before .if1 .taken) ∙ c .before .before .before .before .before .before .before .before .before .before .before .before .before .before .before .before .before .before .before .before .pending .ensures p R) (c .before .before .before .before .before .before .before .before .before .before .before .before .step .ensures))
+returns c = (c .before .before .before .before .before .before .before .before .before .before .before .before .step .ensures .most, last-some (c .before .before .before .before .before .before .before .before .before .before .before .before .step .result) (λ p R. sym (c .before .before .before .before .before .before .before .before .before .before .before .before .before .before .before .before .before .before .before .if1 .taken) ∙ c .before .before .before .before .before .before .before .before .before .before .before .before .before .before .before .before .before .before .before .before .pending .ensures p R) (c .before .before .before .before .before .before .before .before .before .before .before .before .step .ensures))
 
 returns-2 : tie.Need-returns-2
 returns-2 c = (omega arith, last-none (λ p R. sym (c .if1 .left) ∙ c .before .pending .ensures p R))
