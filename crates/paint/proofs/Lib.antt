@@ -1,6 +1,7 @@
 pub mod Stores
 pub mod Places
 pub mod Stitches
+pub mod Moves
 pub mod Pieces
 pub mod Spans
 pub mod Stays

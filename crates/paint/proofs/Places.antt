@@ -11,19 +11,18 @@ use Rattle.plane.specs.Words.{Says, tileOf}
 use Rattle.paint.specs.Slots.{Fresh, Holder, InOrderTo, Past, PlaceOf, PutTile, ShiftedUp, Sorted, Sought, Under, WithTile}
 use Rattle.plane.proofs.Basics.{lt-or-ge}
 use Rattle.plane.proofs.Index.{precedes-trans}
-use Rattle.paint.proofs.Stores.{tile-agree}
 
 -- order between tiles that are equal to others
 precedes-at : {a a' b b' : Tile} → a ≡ a' → b ≡ b' → Precedes a' b' → Precedes a b
 precedes-at {a} {a'} {b} {b'} e f p = subst (λ (u : Tile). Precedes u b) (sym e) (subst (λ (u : Tile). Precedes a' u) (sym f) p)
 
 -- ---- a tile put between those before it and the others, moved up
-module _ {ws us vs : List ℕ} {n r : ℕ} {t : Tile} (P : PlaceOf ws n t r) (O : InOrderTo ws n) (F : Fresh ws n t) (S : ShiftedUp ws us (4 + 9 * r) (4 + 9 * n)) (Q : PutTile us vs r t) where
+module _ {ws us vs : List ℕ} {n r : ℕ} {t : Tile} (P : PlaceOf ws n t r) (O : InOrderTo ws n) (F : Fresh ws n t) (S : ShiftedUp ws us r n) (Q : PutTile us vs r t) where
   low : (j : ℕ) → j < r → tileOf vs j ≡ tileOf ws j
-  low j u = Q .old j (λ e. omega arith) ∙ tile-agree us ws j j (λ k v. S .kept (4 + 9 * j + k) (omega arith))
+  low j u = Q .old j (λ e. omega arith) ∙ S .kept j (omega arith)
 
   high : (i j : ℕ) → i ≡ j + 1 → r ≤ j → j < n → tileOf vs i ≡ tileOf ws j
-  high i j e u v = Q .old i (λ q. omega arith) ∙ tile-agree us ws i j (λ k o. let q : 4 + 9 * i + k ≡ 4 + 9 * j + k + 9 = omega arith in rw q (S .moved (4 + 9 * j + k) (omega arith) (omega arith)))
+  high i j e u v = Q .old i (λ q. omega arith) ∙ rw e (S .moved j u v)
 
   ahead : (j : ℕ) → r ≤ j → j < n → Precedes t (tileOf ws j)
   ahead j u v =

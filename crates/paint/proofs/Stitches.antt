@@ -129,9 +129,12 @@ module _ {ws us vs : List ℕ} {n i : ℕ} {t : Tile} {l : Links} (S : StitchedT
         (lt-or-ge j i);
   }
 
--- while stitches are set the tiles stay: they have a span, and are tight
+-- while stitches are set the tiles stay: they have a span, lie in the window, and are tight
 pub some-span : {ws us : List ℕ} {n w h i : ℕ} {t : Tile} → Tight ws n w h → i < n → StitchedTo ws n us i → t ≡ tileOf us i → (0 < t .right) × (0 < t .top)
 some-span {i = i} T u S e = subst (λ (z : Tile). (0 < z .right) × (0 < z .top)) (sym (e ∙ S .tile i)) (omega (arith, T .box i u))
+
+pub some-box : {ws : List ℕ} {n w h i : ℕ} {t : Tile} → Tight ws n w h → i < n → t ≡ tileOf ws i → Box w h t
+some-box {w = w} {h = h} {i = i} T u e = subst (λ (z : Tile). Box w h z) (sym e) (T .box i u)
 
 pub tight-still : {ws us : List ℕ} {n w h i : ℕ} → Tight ws n w h → StitchedTo ws n us i → Tight us n w h
 tight-still {ws} {us} {n} {w} {h} T S = record {

@@ -1,4 +1,4 @@
--- The words of a slice: one store, the five of a tile, and words moved up by nine. No picture is named here.
+-- The words of a slice: one store, the five of a tile, and tiles moved up. No picture is named here.
 use Prim.Native.Nat.{ℕ, _+_, _*_, _≤_, _<_}
 use native.Mathlib.Omega.{arith}
 use mathlib.Core.Path.{_≡_, refl, sym, _∙_, ap}
@@ -91,16 +91,16 @@ module _ (ws : List ℕ) (i : ℕ) (t : Tile) (h : 4 + 9 * i + 9 ≤ length ws) 
     old = λ j u. tile-agree l₅ ws j j (λ k v. away (4 + 9 * j + k) (⊎-elim (λ (o : j < i). inl (omega arith)) (λ (o : i ≤ j). inr (omega arith)) (lt-or-ge j i)));
   }
 
--- ---- words moved up by nine
+-- ---- tiles moved up
 pub shift-none : (ws : List ℕ) (f : ℕ) → ShiftedUp ws ws f f
-shift-none ws f = record { long = refl; moved = λ m u v. absurd (omega arith); kept = λ m u. refl }
+shift-none ws f = record { long = refl; moved = λ j u v. absurd (omega arith); kept = λ j u. refl }
 
-pub shift-more : {ws vs : List ℕ} {i j f : ℕ} → ShiftedUp ws vs j f → j ≡ i + 1 → j ≤ f → f + 9 ≤ length ws → ShiftedUp ws (set vs (i + 9) (getD vs i 0)) i f
-shift-more {ws} {vs} {i} {j} {f} S e h l = record {
-  long = length-set vs (i + 9) (getD vs i 0) ∙ S .long;
+pub shift-more : {ws us vs : List ℕ} {i j f : ℕ} {t : Tile} → ShiftedUp ws us j f → j ≡ i + 1 → t ≡ tileOf us i → PutTile us vs (i + 1) t → ShiftedUp ws vs i f
+shift-more {i = i} S e r P = record {
+  long = P .long ∙ S .long;
   moved = λ m u v. ⊎-elim
-      (λ (o : i < m). store-miss vs (i + 9) (m + 9) _ (λ q. omega arith) ∙ S .moved m (omega arith) v)
-      (λ (o : m ≤ i). let q : m ≡ i = omega arith in store-hit vs (i + 9) (m + 9) _ (omega arith) (omega (arith, S .long)) ∙ (S .kept i (omega arith) ∙ ap (λ (n : ℕ). getD ws n 0) (sym q)))
+      (λ (o : i < m). P .old (m + 1) (λ q. omega arith) ∙ S .moved m (omega arith) v)
+      (λ (o : m ≤ i). let q : m ≡ i = omega arith in rw q (P .new ∙ (r ∙ S .kept i (omega arith))))
       (lt-or-ge i m);
-  kept = λ m u. store-miss vs (i + 9) m _ (λ q. omega arith) ∙ S .kept m (omega arith);
+  kept = λ m u. P .old m (λ q. omega arith) ∙ S .kept m (omega arith);
 }

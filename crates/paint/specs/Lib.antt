@@ -3,6 +3,7 @@ pub mod Slots
 pub mod Brush
 pub mod Cover
 pub mod Stitch
+pub mod Restitch
 pub mod Tables
 pub mod Paint
 pub mod Steps

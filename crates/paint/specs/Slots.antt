@@ -3,7 +3,7 @@ use Prim.Native.Nat.{ℕ, _+_, _-_, _≤_, _<_}
 use mathlib.Core.Path.{_≡_}
 use mathlib.Core.Logic.{_⊎_}
 use mathlib.Core.List.{List}
-use lib.ListN.{length, getD}
+use lib.ListN.{length}
 use Rattle.plane.specs.declared.tile.Tile.{Tile}
 use Rattle.plane.specs.Strips.{Holds, Precedes}
 use Rattle.plane.specs.Words.{tileOf}
@@ -28,11 +28,11 @@ pub record PlaceOf (ws : List ℕ) (n : ℕ) (t : Tile) (r : ℕ) : Type 0 where
   pub lower : (j : ℕ) → j < r → Precedes (tileOf ws j) t
   pub after : r < n → Precedes (tileOf ws r) t → ⊥
 
--- the words e .. f-1 are moved up by nine
+-- tiles e to f - 1 are moved up by one place, and those before, tile e too, stay
 pub record ShiftedUp (ws vs : List ℕ) (e f : ℕ) : Type 0 where
   pub long : length vs ≡ length ws
-  pub moved : (m : ℕ) → e ≤ m → m < f → getD vs (m + 9) 0 ≡ getD ws m 0
-  pub kept : (m : ℕ) → m < e + 9 → getD vs m 0 ≡ getD ws m 0
+  pub moved : (j : ℕ) → e ≤ j → j < f → tileOf vs (j + 1) ≡ tileOf ws j
+  pub kept : (j : ℕ) → j ≤ e → tileOf vs j ≡ tileOf ws j
 
 -- t is none of the first n tiles, by its lower left corner
 abbrev pub Fresh : List ℕ → ℕ → Tile → Type 0

@@ -2,6 +2,7 @@
 pub mod brush;
 pub mod cover;
 pub mod paint;
+pub mod restitch;
 pub mod runs;
 pub mod slots;
 pub mod stitch;

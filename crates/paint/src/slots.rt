@@ -40,15 +40,15 @@ pub fn place_of(work: &[u16], n: usize, t: Tile) -> usize
     i
 }
 
-// Moves the words from .. to-1 up by nine.
+// Moves the tiles from .. to-1 up by one place.
 pub fn shift(work: &mut [u16], from: usize, to: usize)
-    requires { ⌜ (from ≤ to) × (to + 9 ≤ length (now work)) ⌝ }
+    requires { ⌜ (from ≤ to) × (4 + 9 * to + 9 ≤ length (now work)) ⌝ }
     ensures { λ _. ⌜ ShiftedUp (now (work .entry)) (now (work .exit)) from to ⌝ }
 {
     let mut j = to;
     while from < j {
         j -= 1;
-        work[j + 9] = work[j];
+        put_tile(work, j + 1, nth_tile(work, j));
     }
 }
 
@@ -59,7 +59,7 @@ pub fn insert(work: &mut [u16], n: usize, t: Tile)
     ensures { λ _. ⌜ WithTile (now (work .entry)) (now (work .exit)) n t ⌝ }
 {
     let i = place_of(work, n, t);
-    shift(work, 4 + 9 * i, 4 + 9 * n);
+    shift(work, i, n);
     put_tile(work, i, t);
 }
 

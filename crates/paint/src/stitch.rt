@@ -59,6 +59,21 @@ pub fn number_high(work: &[u16], n: usize, w: u16, h: u16, i: usize, x: u16, y: 
     65535
 }
 
+// The same as number_low; at once where (x,y) is outside.
+pub fn number_inside(work: &[u16], n: usize, w: u16, h: u16, i: usize, x: u16, y: u16) -> u16
+    requires { ⌜ (4 + 9 * n ≤ length (now work)) × (n ≤ 65535) × (i ≤ n) ⌝ }
+    requires { ⌜ Tight (now work) n w h ⌝ }
+    ensures { λ r. ⌜ r ≡ numberIn (now (work .entry)) n x y ⌝ }
+{
+    if w <= x {
+        return 65535;
+    }
+    if h <= y {
+        return 65535;
+    }
+    number_low(work, n, w, h, i, x, y)
+}
+
 // The number of the tile that holds the square under (x,y).
 pub fn number_below(work: &[u16], n: usize, w: u16, h: u16, i: usize, x: u16, y: u16) -> u16
     requires { ⌜ (4 + 9 * n ≤ length (now work)) × (n ≤ 65535) × (i ≤ n) ⌝ }

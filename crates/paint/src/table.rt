@@ -1,6 +1,7 @@
 // Whole tables: of space, and of the picture after, made in working room and taken over. For callers that have tested what they are lent.
 use crate::brush::Brush;
 use crate::cover::rebuild;
+use crate::restitch::restitch;
 use crate::slots::put_tile;
 use crate::stitch::stitch;
 use plane::tile::Area;
@@ -78,7 +79,7 @@ pub fn repaint(t: &[u16], b: Brush, work: &mut [u16], room: usize) -> usize
     if room < n {
         return n;
     }
-    stitch(work, n, t[1], t[2]);
+    restitch(t, work, n);
     put_header(work, n, t[1], t[2], t[3]);
     clear_from(work, 4 + 9 * n);
     n

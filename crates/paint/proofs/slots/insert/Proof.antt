@@ -1,4 +1,4 @@
--- The place, the words moved up, the tile put, by `with-tile`.
+-- The place, the tiles moved up, the tile put, by `with-tile`.
 use borrow.Author.Needs.{needs}
 use Rattle.paint.proofs.Places.{with-tile}
 use Rattle.paint.proofs.slots.insert.Statement.{statement}
@@ -6,18 +6,6 @@ use Rattle.paint.proofs.slots.insert.Tie as tie
 
 place-of-requires : tie.Need-place-of-requires
 place-of-requires c κs = search needs
-
-mul-shift : tie.Need-mul-shift
-mul-shift c = search needs
-
-add-shift : tie.Need-add-shift
-add-shift c = search needs
-
-mul-shift-2 : tie.Need-mul-shift-2
-mul-shift-2 c = search needs
-
-add-shift-2 : tie.Need-add-shift-2
-add-shift-2 c = search needs
 
 shift-requires : tie.Need-shift-requires
 shift-requires c κs = search needs
@@ -32,15 +20,4 @@ returns : tie.Need-returns
 returns c = with-tile (c .before .before .before .before .before .before .before .before .place-of .ensures) (c .before .before .before .before .before .before .before .before .before .before .before .pre .1 .0) (c .before .before .before .before .before .before .before .before .before .before .before .pre .1 .1) (c .before .before .before .before .before .before .shift .ensures) (c .before .before .put-tile .ensures)
 
 pub insert-spec : {M : Type 1} → statement M
-insert-spec =
-    tie.close
-    (tie.spec
-    place-of-requires
-    mul-shift
-    add-shift
-    mul-shift-2
-    add-shift-2
-    shift-requires
-    put-tile-requires
-    same-length
-    returns)
+insert-spec = tie.close (tie.spec place-of-requires shift-requires put-tile-requires same-length returns)

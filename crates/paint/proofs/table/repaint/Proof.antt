@@ -15,14 +15,8 @@ same-length c = search needs
 returns : tie.Need-returns
 returns c = record { full = c .before .before .before .rebuild .ensures .full; number = λ u. absurd (omega arith); done = λ u. absurd (omega arith) }
 
-shared-slice-read-stitch : tie.Need-shared-slice-read-stitch
-shared-slice-read-stitch c = search needs
-
-shared-slice-read-stitch-2 : tie.Need-shared-slice-read-stitch-2
-shared-slice-read-stitch-2 c = search needs
-
-stitch-requires : tie.Need-stitch-requires
-stitch-requires c κs = ((omega (arith, c .before .before .before .before .before .before .rebuild .kept .1 .1 .0, c .before .before .before .before .before .before .before .before .before .before .pre .1), omega (arith, c .before .before .before .before .before .before .before .before .before .before .pre .1)), built-tight (c .before .before .before .before .before .before .rebuild .ensures) (c .before .before .before .if1 .left))
+restitch-requires : tie.Need-restitch-requires
+restitch-requires c κs = (c .before .before .before .before .before .before .before .before .pre .0 .plane, ((omega (arith, c .before .before .before .before .rebuild .kept .1 .1 .0, c .before .before .before .before .before .before .before .before .pre .1), omega (arith, c .before .before .before .before .before .before .before .before .pre .1)), built-tight (c .before .before .before .before .rebuild .ensures) (c .before .if1 .left)))
 
 shared-slice-read-put-header : tie.Need-shared-slice-read-put-header
 shared-slice-read-put-header c = search needs
@@ -49,10 +43,10 @@ same-length-2 : tie.Need-same-length-2
 same-length-2 c = search needs
 
 returns-2 : tie.Need-returns-2
-returns-2 c = let o = c .before .before .before .before .before .before .before .before .before .before .before .before .before .before .before .before .before .if1 .left in record {
+returns-2 c = let o = c .before .before .before .before .before .before .before .before .before .before .before .before .before .before .before .if1 .left in record {
   full = λ u. absurd (omega arith);
-  number = λ u. built-number (c .before .before .before .before .before .before .before .before .before .before .before .before .before .before .before .before .before .before .before .before .rebuild .ensures) o;
-  done = λ u. finished (c .before .before .before .before .before .before .before .before .before .before .before .before .before .before .before .before .before .before .before .before .rebuild .ensures) o (c .before .before .before .before .before .before .before .before .before .before .before .before .before .stitch .ensures) (c .before .before .before .before .before .before .put-header .ensures) (c .before .before .clear-from .ensures) (c .before .before .before .before .before .before .before .before .before .before .before .before .before .before .before .before .before .before .before .before .rebuild .kept .1 .1 .0 ∙ (c .before .before .before .before .before .before .before .before .before .before .before .before .before .before .before .before .before .before .before .before .before .before .before .before .pre .1 .0 ∙ c .before .before .before .before .before .before .before .before .before .before .before .before .before .before .before .before .before .before .before .before .before .before .before .before .pre .1 .1));
+  number = λ u. built-number (c .before .before .before .before .before .before .before .before .before .before .before .before .before .before .before .before .before .before .rebuild .ensures) o;
+  done = λ u. finished (c .before .before .before .before .before .before .before .before .before .before .before .before .before .before .before .before .before .before .rebuild .ensures) o (c .before .before .before .before .before .before .before .before .before .before .before .before .before .restitch .ensures) (c .before .before .before .before .before .before .put-header .ensures) (c .before .before .clear-from .ensures) (c .before .before .before .before .before .before .before .before .before .before .before .before .before .before .before .before .before .before .rebuild .kept .1 .1 .0 ∙ (c .before .before .before .before .before .before .before .before .before .before .before .before .before .before .before .before .before .before .before .before .before .before .pre .1 .0 ∙ c .before .before .before .before .before .before .before .before .before .before .before .before .before .before .before .before .before .before .before .before .before .before .pre .1 .1));
 }
 
 pub repaint-spec : {M : Type 1} → statement M
@@ -62,9 +56,7 @@ repaint-spec =
     rebuild-requires
     same-length
     returns
-    shared-slice-read-stitch
-    shared-slice-read-stitch-2
-    stitch-requires
+    restitch-requires
     shared-slice-read-put-header
     shared-slice-read-put-header-2
     shared-slice-read-put-header-3
