@@ -143,9 +143,19 @@ __attribute__((noinline)) void ask_reports(const layout_t *l, const rules_t *r, 
     }
 }
 
+/* Is a square settled? A report on one square says so, and little else. */
+__attribute__((noinline)) void ask_settled(const layout_t *l, const rules_t *r, const paints_t *p) {
+    for (int i = 0; i < ASKED; i++) {
+        const paint_t *a = p->list + i % p->count;
+        if (!layout_settled(layout_report(l->material, WORDS, l->errors, WORDS, l->waiting, WORDS, r->words, 8 * RULES, r->used,
+                                          a->x1, a->y1, a->x1 + 1, a->y1 + 1, listing, ROOM)))
+            stop("a square is not settled");
+    }
+}
+
 /* The best time of each phase over the rounds. */
-enum { PAINT, FULL, EDIT, POINT, VET, REPORT, PHASES };
-static const char *names[PHASES] = {"paint_us", "full_us", "edit_us", "point_us", "vet_us", "report_us"};
+enum { PAINT, FULL, EDIT, POINT, VET, SETTLED, REPORT, PHASES };
+static const char *names[PHASES] = {"paint_us", "full_us", "edit_us", "point_us", "vet_us", "settled_us", "report_us"};
 
 static void keep_least(double *best, int phase, double since, int parts) {
     double t = (now_us() - since) / parts;
@@ -170,6 +180,9 @@ static void one_round(layout_t *l, const rules_t *r, const paints_t *p, const pa
     ask_vets(l);
     keep_least(best, VET, t, ASKED);
     t = now_us();
+    ask_settled(l, r, p);
+    keep_least(best, SETTLED, t, ASKED);
+    t = now_us();
     ask_reports(l, r, p);
     keep_least(best, REPORT, t, ASKED);
 }
@@ -189,7 +202,7 @@ int main(int argc, char **argv) {
     static layout_t l;
     static rules_t r;
     static paints_t p, edits;
-    double best[PHASES] = {-1, -1, -1, -1, -1, -1};
+    double best[PHASES] = {-1, -1, -1, -1, -1, -1, -1};
     unsigned full = 0, pieces = 0;
     if (argc == 6 && !strcmp(argv[1], "fit")) {
         read_paints(argv[4], &p);
