@@ -18,7 +18,7 @@ use Rattle.plane.proofs.Basics.{bool-cases, lt-or-ge}
 use Rattle.plane.proofs.Counting.{sum-tight}
 use Rattle.plane.proofs.FromTable.{table-plane, tiles-agree}
 use Rattle.plane.proofs.Tables.{written-count}
-use Rattle.paint.specs.Brush.{Small}
+use Rattle.strips.specs.Brush.{Small}
 use Rattle.paint.specs.Tables.{Paintable, PaintedTo}
 use Rattle.paint.proofs.Calls.{table-at}
 use Rattle.rules.specs.Words.{haloOf, rulesOf}

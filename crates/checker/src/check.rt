@@ -24,7 +24,7 @@ ghost use Rattle.plane.specs.Area.{AreaIn};
 ghost use Rattle.plane.specs.Picture.{painted, stamped};
 ghost use Rattle.plane.specs.Plane.{Plane};
 ghost use Rattle.plane.specs.Words.{width, height, kinds, pictureOf};
-ghost use Rattle.paint.specs.Brush.{Small};
+ghost use Rattle.strips.specs.Brush.{Small};
 ghost use Rattle.paint.specs.Tables.{Paintable};
 ghost use Rattle.rules.specs.Words.{rulesOf};
 ghost use Rattle.piece.specs.Remark.{Checkable};

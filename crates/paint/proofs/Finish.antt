@@ -8,13 +8,13 @@ use Rattle.plane.specs.declared.tile.Tile.{Tile}
 use Rattle.plane.specs.Picture.{Picture, table, tileWords, tiles}
 use Rattle.plane.specs.Strips.{Ordered, Precedes, Strip}
 use Rattle.plane.specs.Words.{tileOf}
-use Rattle.paint.specs.Cover.{Built, Part}
-use Rattle.paint.specs.Stitch.{StitchedTo, Tight, tilesTo}
+use Rattle.strips.specs.Cover.{Built, Part}
+use Rattle.stitches.specs.Stitch.{StitchedTo, Tight, tilesTo}
 use Rattle.paint.specs.Tables.{Cleared, Headed}
 use Rattle.plane.proofs.Index.{length-upTo, mem-upTo, nth, nth-upTo, ordered-nth}
 use Rattle.plane.proofs.Tables.{written-is}
 use Rattle.plane.proofs.Tiling.{tiles-strips}
-use Rattle.paint.proofs.Grows.{part-sorted}
+use Rattle.strips.proofs.Grows.{part-sorted}
 
 module _ {w h c n : ℕ} {q : Picture} {ws : List ℕ} (B : Built w h q c ws n) (o : n ≤ c) where
   all-tiles : tilesTo ws n ≡ tiles w h q

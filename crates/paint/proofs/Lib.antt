@@ -1,12 +1,3 @@
-pub mod Stores
-pub mod Places
-pub mod Stitches
-pub mod Moves
-pub mod Pieces
-pub mod Spans
-pub mod Stays
-pub mod Grows
-pub mod Covers
 pub mod Fills
 pub mod Finish
 pub mod Whole

@@ -8,8 +8,8 @@ use Rattle.plane.specs.declared.tile.Tile.{Tile}
 use Rattle.plane.specs.Picture.{space, table, tiles}
 use Rattle.plane.specs.Strips.{Strip, Strips}
 use Rattle.plane.specs.Words.{InRange, IsTable, upTo}
-use Rattle.paint.specs.Cover.{Built}
-use Rattle.paint.specs.Slots.{PutTile}
+use Rattle.strips.specs.Cover.{Built}
+use Rattle.strips.specs.Slots.{PutTile}
 use Rattle.plane.proofs.Tiling.{strips-are-tiles}
 use Rattle.paint.proofs.Whole.{made-table}
 

@@ -11,9 +11,9 @@ use Rattle.plane.specs.declared.tile.Area.{Area}
 use Rattle.plane.specs.Picture.{Picture, area, bitOf, holds, inArea, painted, space, stamped, table, tiles, written}
 use Rattle.plane.specs.Plane.{Plane}
 use Rattle.plane.specs.Words.{InRange, IsTable, count, height, kinds, pictureOf, tileOf, width}
-use Rattle.paint.specs.declared.brush.Brush.{Brush}
-use Rattle.paint.specs.Cover.{Built}
-use Rattle.paint.specs.Brush.{Given, Shown, Small, after, brushArea, brushTile, goal, inked}
+use Rattle.strips.specs.declared.brush.Brush.{Brush}
+use Rattle.strips.specs.Cover.{Built}
+use Rattle.strips.specs.Brush.{Given, Shown, Small, after, brushArea, brushTile, goal, inked}
 use Rattle.paint.specs.Tables.{FlatBrush, MayPaint, Paintable, PaintedTo, Repainted, TilesAfter}
 use Rattle.plane.proofs.Basics.{bool-cases, tf}
 use Rattle.plane.proofs.FromTable.{picture-table, table-plane}
@@ -22,7 +22,7 @@ use Rattle.plane.proofs.Tables.{written-count, written-height, written-kinds, w
 use Rattle.plane.proofs.Tiling.{tiles-strips}
 use Rattle.plane.proofs.ToTable.{plane-strips}
 use Rattle.paint.proofs.Finish.{built-number}
-use Rattle.paint.proofs.Pieces.{after-in, after-out}
+use Rattle.strips.proofs.Pieces.{after-in, after-out}
 
 -- ---- a table, as the rebuild takes it
 pub plane-shown : (ws : List ℕ) → Plane ws → Shown ws

@@ -1,9 +1,4 @@
--- What the contracts of painting cite: the steps of the rebuild by subject, and what each call promises.
-pub mod Slots
-pub mod Brush
-pub mod Cover
-pub mod Stitch
-pub mod Restitch
+-- What the contracts of painting cite: whole tables, and what each call promises.
 pub mod Tables
 pub mod Paint
 pub mod Steps

@@ -8,9 +8,9 @@ use Rattle.plane.specs.declared.tile.Area.{Area}
 use Rattle.plane.specs.Picture.{Picture, tiles, table}
 use Rattle.plane.specs.Words.{count, width, height, kinds, IsTable}
 use Rattle.plane.specs.Area.{AreaIn}
-use Rattle.paint.specs.declared.brush.Brush.{Brush}
-use Rattle.paint.specs.Brush.{BrushIn, brushArea, goal}
-use Rattle.paint.specs.Cover.{TooMany}
+use Rattle.strips.specs.declared.brush.Brush.{Brush}
+use Rattle.strips.specs.Brush.{BrushIn, brushArea, goal}
+use Rattle.strips.specs.Cover.{TooMany}
 
 -- the header is set, and all else stays
 pub record Headed (ws vs : List ℕ) (n w h k : ℕ) : Type 0 where

@@ -1,17 +1,17 @@
 // Whole tables: of space, and of the picture after, made in working room and taken over. For callers that have tested what they are lent.
-use crate::brush::Brush;
-use crate::cover::rebuild;
-use crate::restitch::restitch;
-use crate::slots::put_tile;
-use crate::stitch::stitch;
 use plane::tile::Area;
 use plane::tile::Tile;
+use stitches::restitch::restitch;
+use stitches::stitch::stitch;
+use strips::brush::Brush;
+use strips::cover::rebuild;
+use strips::slots::put_tile;
 ghost use mathlib.Core.Path.{_≡_};
 ghost use Prim.Native.Nat.{_+_, _*_, _<_, _≤_};
 ghost use lib.ListN.{length, replicate};
 ghost use Rattle.plane.specs.Picture.{table, space, painted, stamped};
 ghost use Rattle.plane.specs.Words.{count, kinds, pictureOf};
-ghost use Rattle.paint.specs.Brush.{Small, Given, goal};
+ghost use Rattle.strips.specs.Brush.{Small, Given, goal};
 ghost use Rattle.paint.specs.Tables.{Headed, Cleared, Repainted, MayPaint, Paintable, FlatBrush, TilesAfter, PaintedTo, TakenOver};
 
 // Writes the header.

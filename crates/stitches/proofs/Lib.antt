@@ -1,0 +1,2 @@
+pub mod Stitches
+pub mod Moves

@@ -1,0 +1,3 @@
+-- What the contracts of stitching cite.
+pub mod Stitch
+pub mod Restitch

@@ -1,0 +1,7 @@
+pub mod Stores
+pub mod Places
+pub mod Pieces
+pub mod Spans
+pub mod Stays
+pub mod Grows
+pub mod Covers

@@ -1,0 +1,65 @@
+-- The picture after a brush, and its pieces: what the brush sets, and a tile of the table clipped by it, are of one type.
+use Prim.Native.Nat.{ℕ, _+_, _-_, _≤_}
+use native.Mathlib.Omega.{arith}
+use mathlib.Core.Bool.{true, false}
+use mathlib.Core.Path.{_≡_, sym, _∙_, ap, subst}
+use mathlib.Core.Logic.{⊎-elim}
+use mathlib.Core.List.{List}
+use lib.ListN.{getD}
+use Rattle.plane.specs.declared.tile.Tile.{Tile}
+use Rattle.plane.specs.Picture.{Picture, bitOf, holds}
+use Rattle.plane.specs.Plane.{Names}
+use Rattle.plane.specs.Strips.{Holds, Strip}
+use Rattle.plane.specs.Words.{height, pictureOf, tileOf, width}
+use Rattle.strips.specs.declared.brush.Brush.{Brush}
+use Rattle.strips.specs.Brush.{BrushIn, Clipped, Flat, Given, InkTile, after, brushTile, goal, inked}
+use Rattle.plane.proofs.Basics.{bool-cases}
+use Rattle.plane.proofs.Index.{holds-true, true-holds}
+
+-- ---- the picture after
+pub after-in : (p : Picture) (b : Brush) (x y : ℕ) → Holds (brushTile b) x y → after p b x y ≡ inked b x y
+unfolding after
+after-in p b x y h = rw (true-holds (brushTile b) x y h)
+
+pub after-out : (p : Picture) (b : Brush) (x y : ℕ) → (Holds (brushTile b) x y → ⊥) → after p b x y ≡ p x y
+unfolding after
+after-out p b x y h = ⊎-elim (λ e. absurd (h (holds-true (brushTile b) x y e))) (λ e. rw e) (bool-cases (holds (brushTile b) x y))
+
+-- ---- the ink of the area
+pub ink-bit : {b : Brush} {x y : ℕ} (r : ℕ) → b .bits ≡ true → Holds (brushTile b) x y → r ≡ y - b .y1
+    → InkTile b x y (record { left = x; bottom = y; right = x + 1; top = y + 1; kind = bitOf (getD (b .rows) r 0) (x - b .x1) })
+unfolding inked
+ink-bit {b} {x} {y} r o h e = record {
+  here = omega arith;
+  inside = λ i z v. omega arith;
+  each = λ i z v. let p : i ≡ x = omega arith in let q : z ≡ y = omega arith in rw (o, p, q, e);
+}
+
+pub ink-flat : {b : Brush} {x y : ℕ} {t : Tile} → b .bits ≡ false → Holds (brushTile b) x y → t ≡ brushTile b → InkTile b x y t
+unfolding inked
+ink-flat {b} {x} {y} {t} o h e = subst (λ (u : Tile). InkTile b x y u) (sym e) (record { here = h; inside = λ i z v. v; each = λ i z v. rw o })
+
+-- ---- a clipped tile is of one type
+pub clip-flat : {w h : ℕ} {p : Picture} {s : Tile} {b : Brush} {x y : ℕ} {t : Tile} → Strip w h p s → BrushIn w h b → Clipped s b x y t → Flat w h (after p b) x y t
+clip-flat {w} {h} {p} {s} {b} {x} {y} {t} S A C = record {
+  box = record { wide = omega arith; tall = omega arith; inside = side; under = roof };
+  here = C .here;
+  all = λ i z u. ⊎-elim (λ v. after-in p b i z (v .0) ∙ sym (v .1)) (λ v. after-out p b i z (v .0) ∙ (S .rows z (v .1 .from-bottom) (v .1 .to-top) .all i (v .1 .from-left) (v .1 .to-right) ∙ sym (v .2))) (C .each i z u);
+}
+  where
+    side : t .right ≤ w
+    side = ⊎-elim (λ v. omega arith) (λ v. omega (arith, S .box)) (C .each (t .right - 1) y (omega arith))
+
+    roof : t .top ≤ h
+    roof = ⊎-elim (λ v. omega arith) (λ v. omega (arith, S .box)) (C .each x (t .top - 1) (omega arith))
+
+-- ---- a tile that was named and read
+pub read-at : (ws : List ℕ) {i j : ℕ} {s : Tile} → j ≡ i → s ≡ tileOf ws j → s ≡ tileOf ws i
+read-at ws e f = f ∙ ap (tileOf ws) e
+
+pub named-holds : {ws : List ℕ} {k j x y : ℕ} {s : Tile} → Names ws k x y → j ≡ k → s ≡ tileOf ws j → Holds s x y
+named-holds {ws} {x = x} {y = y} N e f = subst (λ (u : Tile). Holds u x y) (sym (read-at ws e f)) (N .held)
+
+pub named-flat : {ws : List ℕ} {b : Brush} {k j x y : ℕ} {s t : Tile} → Given ws b → Names ws k x y → j ≡ k → s ≡ tileOf ws j → Clipped s b x y t → Flat (width ws) (height ws) (goal ws b) x y t
+named-flat {ws} {k = k} G N e f C =
+    clip-flat (subst (λ (u : Tile). Strip (width ws) (height ws) (pictureOf ws) u) (sym (read-at ws e f)) (G .shown .each k (N .counted))) (G .brush) C
