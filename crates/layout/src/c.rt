@@ -1,4 +1,5 @@
 // The calls as C sees them: numbers and slices of words, and one number returned. Bits 0 to 7 are the paper's number, and the others are laid out as specs/Pack says.
+use ask::handle::point;
 use checker::check::CheckAnswer;
 use checker::check::check;
 use checker::create::create;
@@ -8,7 +9,6 @@ use checker::report::report;
 use plane::answer::Point;
 use plane::answer::answer_number;
 use plane::answer::refusal_number;
-use plane::handle::point;
 use plane::tile::Area;
 use plane::words::wide;
 use rules::macros::MacroAnswer;

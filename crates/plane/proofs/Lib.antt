@@ -8,13 +8,10 @@ pub mod Tables
 pub mod ToTable
 pub mod Walks
 pub mod Listings
-pub mod Alongs
 pub mod FromTable
 pub mod Counting
 pub mod Shares
 pub mod Checked
 pub mod Lowests
 pub mod Vets
-pub mod Asked
 pub mod Once
-pub mod Handles

@@ -1,4 +1,4 @@
--- Each call has one outcome: two that meet its statement have the same answer and leave the same words. An answer is known by its number and its value.
+-- An answer is known by its number and its value, and the test of a table has one: two that meet its statement are the same.
 use Prim.Native.Nat.{ℕ, zero, suc}
 use native.Mathlib.Omega.{arith}
 use mathlib.Core.Path.{_≡_, refl, sym, _∙_, ap}
@@ -11,13 +11,9 @@ use Rattle.plane.specs.declared.answer.Point.{Point}
 use Rattle.plane.specs.declared.answer.Point.the-variants as point
 use Rattle.plane.specs.declared.answer.Refusal.{Refusal}
 use Rattle.plane.specs.declared.answer.Refusal.the-variants.{Lengths, Sizes, NoTable, NoRule, Kind, Place, Full}
-use Rattle.plane.specs.declared.tile.Area.{Area}
 use Rattle.plane.specs.Answers.{refusalNumber, number, pointNumber, pointTile, countNumber, countValue}
-use Rattle.plane.specs.Area.{SquaresCounted, TilesListed}
-use Rattle.plane.specs.Listing.{Listing}
-use Rattle.plane.specs.Point.{vetRefusals, Vetted, Pointed}
-use Rattle.plane.specs.Refusal.{lowest-once, outcome-once}
-use Rattle.plane.specs.Side.{Neighboured}
+use Rattle.plane.specs.Point.{vetRefusals, Vetted}
+use Rattle.plane.specs.Refusal.{lowest-once}
 use Rattle.plane.proofs.Lowests.{refusal-positive}
 
 -- ---- an answer is known by its number and its value
@@ -65,22 +61,6 @@ counting-once (counted.Count i) (counted.No s) e f = never s e
 counting-once (counted.No r) (counted.Count j) e f = never r (sym e)
 counting-once (counted.No r) (counted.No s) e f = ap counted.No (refusal-once r s e)
 
--- ---- the calls
+-- ---- the test
 pub vet-once : {ws : List ℕ} (r r' : Answer) → Vetted ws (number r) → Vetted ws (number r') → r ≡ r'
 vet-once {ws} r r' p q = number-once r r' (lowest-once (vetRefusals ws) (p .number) (q .number))
-
-pub point-once : {ws : List ℕ} {w h x y : ℕ} (r r' : Point) → Pointed ws w h x y (pointNumber r) (pointTile r) → Pointed ws w h x y (pointNumber r') (pointTile r') → r ≡ r'
-point-once r r' p q = let e = outcome-once (p .outcome) (q .outcome) in pointing-once r r' (e .0) (e .1)
-
-pub neighbours-once : {ws : List ℕ} {w h i side : ℕ} {out after after' : List ℕ} (r r' : Counted) → Neighboured ws w h i side out (countNumber r) (countValue r) after → Neighboured ws w h i side out (countNumber r') (countValue r') after' → (r ≡ r') × (after ≡ after')
-neighbours-once r r' p q =
-    let e = outcome-once (p .outcome) (q .outcome) in
-    (counting-once r r' (e .0) (ap (λ (l : Listing). l .entries) (e .1)), ap (λ (l : Listing). l .slice) (e .1))
-
-pub squares-once : {ws : List ℕ} {k : ℕ} {a : Area} (r r' : Counted) → SquaresCounted ws k a (countNumber r) (countValue r) → SquaresCounted ws k a (countNumber r') (countValue r') → r ≡ r'
-squares-once r r' p q = let e = outcome-once (p .outcome) (q .outcome) in counting-once r r' (e .0) (e .1)
-
-pub tiles-once : {ws : List ℕ} {k : ℕ} {a : Area} {out after after' : List ℕ} (r r' : Counted) → TilesListed ws k a out (countNumber r) (countValue r) after → TilesListed ws k a out (countNumber r') (countValue r') after' → (r ≡ r') × (after ≡ after')
-tiles-once r r' p q =
-    let e = outcome-once (p .outcome) (q .outcome) in
-    (counting-once r r' (e .0) (ap (λ (l : Listing). l .entries) (e .1)), ap (λ (l : Listing). l .slice) (e .1))

@@ -8,6 +8,4 @@ pub mod Refusal
 pub mod Answers
 pub mod Point
 pub mod Listing
-pub mod Side
 pub mod Area
-pub mod Worked

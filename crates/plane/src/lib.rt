@@ -2,10 +2,7 @@
 pub mod answer;
 pub mod area;
 pub mod find;
-pub mod handle;
 pub mod listing;
-pub mod query;
-pub mod side;
 pub mod tile;
 pub mod vet;
 pub mod words;

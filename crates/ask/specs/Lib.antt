@@ -1,0 +1,3 @@
+-- What the contracts of the questions cite.
+pub mod Side
+pub mod Worked
