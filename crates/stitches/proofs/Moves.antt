@@ -10,7 +10,7 @@ use Rattle.plane.specs.Picture.{before}
 use Rattle.plane.specs.Plane.{Link, Names, Stitched}
 use Rattle.plane.specs.Strips.{Holds}
 use Rattle.plane.specs.Words.{Says, count, tileOf, word}
-use Rattle.stitches.specs.declared.restitch.Shared.{Shared}
+use Rattle.stitches.specs.declared.shared.Shared.{Shared}
 use Rattle.stitches.specs.declared.stitch.Links.{Links}
 use Rattle.stitches.specs.Restitch.{Alike, AllKnown, KnownLinks, LinksIn, Moved, MovedLinks, SameFirst, SameLast, lost, shifts, stays}
 use Rattle.strips.specs.Slots.{Holder, Under}

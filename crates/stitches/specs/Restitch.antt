@@ -5,7 +5,7 @@ use mathlib.Core.List.{List}
 use Rattle.plane.specs.declared.tile.Tile.{Tile}
 use Rattle.plane.specs.Plane.{Link}
 use Rattle.plane.specs.Words.{count, height, tileOf, width}
-use Rattle.stitches.specs.declared.restitch.Shared.{Shared}
+use Rattle.stitches.specs.declared.shared.Shared.{Shared}
 use Rattle.stitches.specs.declared.stitch.Links.{Links}
 use Rattle.strips.specs.Slots.{Holder, Under}
 

@@ -1,4 +1,7 @@
 // The stitches of a table that has most tiles of another: those to tiles that both have are taken over from the other, and the rest is looked for.
+use crate::shared::Shared;
+use crate::shared::moved_links;
+use crate::shared::shared_tiles;
 use crate::stitch::Links;
 use crate::stitch::number_inside;
 use crate::stitch::put_links;
@@ -21,118 +24,7 @@ ghost use Rattle.plane.specs.Strips.{Box};
 ghost use Rattle.plane.specs.Words.{Says, count, height, tileOf, width};
 ghost use Rattle.strips.specs.Slots.{Holder, Under};
 ghost use Rattle.stitches.specs.Stitch.{numberIn, Tight, LinksOf, StitchedTo};
-ghost use Rattle.stitches.specs.Restitch.{Alike, AllKnown, KnownLinks, LinksIn, Moved, MovedLinks, SameFirst, SameLast};
-
-// The tiles that two tables share: the first `low` of both, and tiles `old` to `end` - 1 of the one, which are those from `new` on in the other.
-pub struct Shared {
-    pub low: usize,
-    pub old: usize,
-    pub end: usize,
-    pub new: usize,
-}
-
-// Are the two tiles one?
-fn same_tile(a: Tile, b: Tile) -> bool
-    ensures { λ r. ⌜ Says r (a ≡ b) ⌝ }
-{
-    if a.left != b.left {
-        return false;
-    }
-    if a.bottom != b.bottom {
-        return false;
-    }
-    if a.right != b.right {
-        return false;
-    }
-    if a.top != b.top {
-        return false;
-    }
-    if a.kind != b.kind {
-        return false;
-    }
-    true
-}
-
-// How many first tiles of the two are the same, looking at the first `most`.
-fn same_first(t: &[u16], work: &[u16], most: usize) -> usize
-    requires { ⌜ (4 + 9 * most ≤ length (now t)) × (4 + 9 * most ≤ length (now work)) ⌝ }
-    ensures { λ r. ⌜ SameFirst (now (t .entry)) (now (work .entry)) most r ⌝ }
-{
-    let mut i = 0;
-    while i < most {
-        if same_tile(nth_tile(work, i), nth_tile(t, i)) {
-            i += 1;
-        } else {
-            return i;
-        }
-    }
-    most
-}
-
-// How many last tiles of the m and n tiles are the same, looking at the last `most`.
-fn same_last(t: &[u16], m: usize, work: &[u16], n: usize, most: usize) -> usize
-    requires { ⌜ (4 + 9 * m ≤ length (now t)) × (4 + 9 * n ≤ length (now work)) × (most ≤ m) × (most ≤ n) ⌝ }
-    ensures { λ r. ⌜ SameLast (now (t .entry)) m (now (work .entry)) n most r ⌝ }
-{
-    let mut k = 0;
-    while k < most {
-        if same_tile(nth_tile(work, n - 1 - k), nth_tile(t, m - 1 - k)) {
-            k += 1;
-        } else {
-            return k;
-        }
-    }
-    most
-}
-
-// The tiles that t and the first n tiles of the working slice share.
-fn shared_tiles(t: &[u16], work: &[u16], n: usize) -> Shared
-    requires { ⌜ Plane (now t) ⌝ }
-    requires { ⌜ (4 + 9 * n ≤ length (now work)) × (n ≤ 65535) ⌝ }
-    ensures { λ r. ⌜ Alike (now (t .entry)) (now (work .entry)) n r ⌝ }
-{
-    let m = wide(t[0]);
-    let most = wide(least(t[0], n as u16));
-    let low = same_first(t, work, most);
-    let k = same_last(t, m, work, n, most - low);
-    Shared {
-        low,
-        old: m - k,
-        end: m,
-        new: n - k,
-    }
-}
-
-// The number that a shared tile of number g has in the other table; 65535 for any other number.
-fn moved(g: u16, s: Shared) -> u16
-    requires { ⌜ s .new + s .end ≤ 65535 + s .old ⌝ }
-    ensures { λ r. ⌜ Moved s g r ⌝ }
-{
-    let i = wide(g);
-    if i < s.low {
-        return g;
-    }
-    if i < s.old {
-        return 65535;
-    }
-    if i < s.end {
-        return (s.new + (i - s.old)) as u16;
-    }
-    65535
-}
-
-// The four numbers moved.
-fn moved_links(g: Links, s: Shared) -> Links
-    requires { ⌜ s .new + s .end ≤ 65535 + s .old ⌝ }
-    ensures { λ r. ⌜ MovedLinks s g r ⌝ }
-{
-    Links {
-        lb: moved(g.lb, s),
-        bl: moved(g.bl, s),
-        tr: moved(g.tr, s),
-        rt: moved(g.rt, s),
-    }
-}
+ghost use Rattle.stitches.specs.Restitch.{Alike, AllKnown, KnownLinks, LinksIn};
 
 // The four stitches of tile i of t.
 fn links_at(t: &[u16], i: usize) -> Links
@@ -368,24 +260,24 @@ fn place_from(work: &[u16], e: usize, j: usize, a: Tile) -> usize
 }
 
 // For each tile of t between the shared ones a guess at the tile that has its place now. Nothing is promised of them.
-fn guess_places(t: &[u16], work: &[u16], s: Shared, places: &mut [u16; 4096])
+fn guess_places(t: &[u16], work: &[u16], s: Shared, places: &mut [u16; 512])
     requires { ⌜ (4 + 9 * s .old ≤ length (now t)) × (4 + 9 * s .new ≤ length (now work)) × (s .low ≤ s .new) × (s .new ≤ 65535) ⌝ }
 {
     let mut j = s.low;
     let mut g = s.low;
     while g < s.old {
         j = place_from(work, s.new, j, nth_tile(t, g));
-        places[g % 4096] = j as u16;
+        places[g % 512] = j as u16;
         g += 1;
     }
 }
 
 // The guesses at the tiles that have the places of the four now.
-fn links_guessed(places: &[u16; 4096], g: Links) -> Links {
-    let lb = wide(g.lb) % 4096;
-    let bl = wide(g.bl) % 4096;
-    let tr = wide(g.tr) % 4096;
-    let rt = wide(g.rt) % 4096;
+fn links_guessed(places: &[u16; 512], g: Links) -> Links {
+    let lb = wide(g.lb) % 512;
+    let bl = wide(g.bl) % 512;
+    let tr = wide(g.tr) % 512;
+    let rt = wide(g.rt) % 512;
     Links {
         lb: places[lb],
         bl: places[bl],
@@ -404,7 +296,7 @@ fn links_now(
     e: usize,
     g: Links,
     k: Links,
-    places: &[u16; 4096],
+    places: &[u16; 512],
 ) -> Links
     requires { ⌜ (4 + 9 * n ≤ length (now work)) × (n ≤ 65535) × (i < n) × (e ≤ n) ⌝ }
     requires { ⌜ Tight (now work) n w h ⌝ }
@@ -426,7 +318,7 @@ fn stitch_shared(t: &[u16], work: &mut [u16], n: usize, s: Shared)
     requires { ⌜ Alike (now t) (now work) n s ⌝ }
     ensures { λ _. ⌜ StitchedTo (now (work .entry)) n (now (work .exit)) n ⌝ }
 {
-    let mut places = [65535u16; 4096];
+    let mut places = [65535u16; 512];
     guess_places(t, work, s, &mut places);
     let mut i = 0;
     while i < n {
