@@ -34,7 +34,7 @@ cell-turned a b = let e : min b a ≡ min a b = omega arith in let f : max b a �
 other-cell : (a b : ℕ) (r : Rule) → (cell (r .type1) (r .type2) ≡ cell a b → ⊥) → Faceless a b r
 other-cell a b r n = record {
   ahead = λ e f. n ((λ i. cell (f i) (e i)) ∙ cell-turned a b);
-  back = λ e f. n (λ i. cell (f i) (e i));
+  back = λ e f. absurd (n (λ i. cell (f i) (e i)));
 }
 
 -- ---- making the chains

@@ -1,13 +1,13 @@
 -- Marking from each edge once is the same as the sweeps: a direction's edge is found at the later of its two squares, and where nothing differs there is none.
 use Prim.Native.Nat.{ℕ, _+_, _-_, _<_, _≤_}
-use mathlib.Core.Bool.{Bool, true, false, _&&_, _||_, true≢false, and-false}
+use mathlib.Core.Bool.{Bool, true, false, not, _&&_, _||_, true≢false, and-false, or-false}
 use mathlib.Core.List.{List}
 use mathlib.Core.Path.{_≡_, refl, sym, _∙_, ap}
 use mathlib.Core.Logic.{_⊎_, inl, inr, ⊎-elim}
 use native.Mathlib.Omega.{arith}
 use lib.ListN.{getD}
 use lib.Dec.{eqb, leb, ltb}
-use borrow.Author.Tests.{eq-eqb, eqb-true, leb-true, ltb-true, le-leb, lt-ltb, le-ltb, lt-leb}
+use borrow.Author.Tests.{eq-eqb, eqb-true, not-false, leb-true, ltb-true, le-leb, lt-ltb, le-ltb, lt-leb}
 use Rattle.plane.proofs.Basics.{and-both, and-left, and-right, lt-or-ge}
 use Rattle.rules.specs.declared.rule.Rule.{Rule}
 use Rattle.rules.specs.Words.{ruleAt, Apart}
@@ -37,9 +37,14 @@ module _ (ks : List ℕ) (all : Bool) (t : Turn) (at : ℕ) (r : Rule) where
   pub from-here : {m m₁ : List ℕ} → 83 ≤ at - t .wm → at - t .wm < 6641 → Marked (goesHit ks all t (at - t .wm) r) m m₁ → Marked (hitFrom ks all t at r) m m₁
   from-here a b h = relabel h (here a b)
 
+  -- where the rule has no edge, and where it lacks the direction
   from-none : edgeAt ks r t (at - t .wm) ≡ false → (q : ℕ) → hitFrom ks all t at r q ≡ false
   unfolding hitFrom goesHit
   from-none e q = rw (hit-none ks r t (at - t .wm) e q, and-false (goes all r), and-false (leb 83 (at - t .wm) && ltb (at - t .wm) 6641))
+
+  from-lacking : goes all r ≡ false → (q : ℕ) → hitFrom ks all t at r q ≡ false
+  unfolding hitFrom goesHit
+  from-lacking e q = rw (e, and-false (leb 83 (at - t .wm) && ltb (at - t .wm) 6641))
 
   from-in : (q : ℕ) → hitFrom ks all t at r q ≡ true → (83 ≤ at - t .wm) × (at - t .wm < 6641) × (goesHit ks all t (at - t .wm) r q ≡ true)
   unfolding hitFrom
@@ -50,11 +55,29 @@ module _ (ks : List ℕ) (all : Bool) (t : Turn) (at : ℕ) (r : Rule) where
         and-right (leb 83 (at - t .wm) && ltb (at - t .wm) 6641) (goesHit ks all t (at - t .wm) r q) e,
       )
 
+-- ---- a one-way rule
+lacking : (r : Rule) → r .fourway ≡ 0 → goes false r ≡ false
+unfolding goes
+lacking r e = ap not (eq-eqb (r .fourway) 0 e)
+
+-- of an edge's four directions it has the first only
+pub one-way : (ks : List ℕ) (t : Turn) (at : ℕ) (r : Rule) {m m₁ : List ℕ} → r .fourway ≡ 0 → Marked (hitFrom ks true t at r) m m₁ → Marked (across ks t at r) m m₁
+unfolding across
+one-way ks t at r e a = relabel a (λ q.
+    rw (
+      from-lacking ks false (flipE t) at r (lacking r e) q,
+      from-lacking ks false (flipW t) at r (lacking r e) q,
+      from-lacking ks false (flipW (flipE t)) at r (lacking r e) q,
+      or-false (hitFrom ks true t at r q),
+      or-false (hitFrom ks true t at r q),
+      or-false (hitFrom ks true t at r q),
+    ))
+
 -- ---- no edge of a rule
--- the rule's types do not stand at the edge, either way round
+-- the rule's types do not stand at the edge in their order, and those of a fourway rule not in the other order
 pub record Faceless (a b : ℕ) (r : Rule) : Type 0 where
   pub ahead : r .type2 ≡ a → r .type1 ≡ b → ⊥
-  pub back : r .type2 ≡ b → r .type1 ≡ a → ⊥
+  pub back : r .type2 ≡ b → r .type1 ≡ a → r .fourway ≡ 0
 
 edge-types : (ks : List ℕ) (r : Rule) (t : Turn) (at : ℕ) → edgeAt ks r t at ≡ true → (getD ks at 0 ≡ r .type2) × (getD ks (at + t .wm - t .wp) 0 ≡ r .type1)
 unfolding edgeAt
@@ -72,14 +95,18 @@ module _ (ks : List ℕ) (t : Turn) (f : Forward t) (at : ℕ) (g : 83 ≤ at) (
       let j : at - e .wm + e .wm - e .wp ≡ at - t .wp = omega arith in
       n .ahead (sym (y .0) ∙ ap (λ m. getD ks m 0) i) (sym (y .1) ∙ ap (λ m. getD ks m 0) j))
 
-  back-none : (e : Turn) → e .wm ≡ t .wp → e .wp ≡ t .wm → edgeAt ks r e (at - e .wm) ≡ false
-  back-none e p q = is-false (edgeAt ks r e (at - e .wm)) (λ z.
-      let y = edge-types ks r e (at - e .wm) z in
-      let k = f .back in
-      let s = f .steps .wp in
-      let i : at - e .wm ≡ at - t .wp = omega arith in
-      let j : at - e .wm + e .wm - e .wp ≡ at = omega arith in
-      n .back (sym (y .0) ∙ ap (λ m. getD ks m 0) i) (sym (y .1) ∙ ap (λ m. getD ks m 0) j))
+  back-none : (e : Turn) → e .wm ≡ t .wp → e .wp ≡ t .wm → (q : ℕ) → hitFrom ks false e at r q ≡ false
+  back-none e p o q = go (edgeAt ks r e (at - e .wm)) refl
+    where
+      go : (b : Bool) → edgeAt ks r e (at - e .wm) ≡ b → hitFrom ks false e at r q ≡ false
+      go false z = from-none ks false e at r z q
+      go true z =
+          let y = edge-types ks r e (at - e .wm) z in
+          let k = f .back in
+          let s = f .steps .wp in
+          let i : at - e .wm ≡ at - t .wp = omega arith in
+          let j : at - e .wm + e .wm - e .wp ≡ at = omega arith in
+          from-lacking ks false e at r (lacking r (n .back (sym (y .0) ∙ ap (λ m. getD ks m 0) i) (sym (y .1) ∙ ap (λ m. getD ks m 0) j))) q
 
   pub across-none : (q : ℕ) → across ks t at r q ≡ false
   unfolding across
@@ -87,23 +114,27 @@ module _ (ks : List ℕ) (t : Turn) (f : Forward t) (at : ℕ) (g : 83 ≤ at) (
       rw (
         from-none ks true t at r (ahead-none t refl refl) q,
         from-none ks false (flipE t) at r (ahead-none (flipE t) refl refl) q,
-        from-none ks false (flipW t) at r (back-none (flipW t) refl refl) q,
-        from-none ks false (flipW (flipE t)) at r (back-none (flipW (flipE t)) refl refl) q,
+        back-none (flipW t) refl refl q,
+        back-none (flipW (flipE t)) refl refl q,
       )
 
 -- the code's test of the types
-faceless : (a b : ℕ) (r : Rule) → ((eqb (r .type1) a && eqb (r .type2) b) || (eqb (r .type1) b && eqb (r .type2) a)) ≡ false → Faceless a b r
+abbrev faces : ℕ → ℕ → Rule → Bool
+faces a b r = (eqb (r .type1) b && eqb (r .type2) a) || (eqb (r .type1) a && eqb (r .type2) b && not (eqb (r .fourway) 0))
+
+faceless : (a b : ℕ) (r : Rule) → faces a b r ≡ false → Faceless a b r
 faceless a b r e = record {
-  ahead = λ p q. true≢false (sym (or-right (eqb (r .type1) a && eqb (r .type2) b) (and-both _ _ (eq-eqb (r .type1) b q) (eq-eqb (r .type2) a p))) ∙ e);
-  back = λ p q. true≢false (sym (or-left (eqb (r .type1) b && eqb (r .type2) a) (and-both _ _ (eq-eqb (r .type1) a q) (eq-eqb (r .type2) b p))) ∙ e);
+  ahead = λ p q. true≢false (sym (or-left (eqb (r .type1) a && eqb (r .type2) b && not (eqb (r .fourway) 0)) (and-both _ _ (eq-eqb (r .type1) b q) (eq-eqb (r .type2) a p))) ∙ e);
+  back = λ p q. eqb-true (r .fourway) 0 (not-false (eqb (r .fourway) 0) (is-false (not (eqb (r .fourway) 0)) (λ z.
+      true≢false (sym (or-right (eqb (r .type1) b && eqb (r .type2) a) (and-both _ _ (and-both _ _ (eq-eqb (r .type1) a q) (eq-eqb (r .type2) b p)) z)) ∙ e))));
 }
 
 same-kind : (a b : ℕ) (r : Rule) → a ≡ b → Apart r → Faceless a b r
-same-kind a b r e n = record { ahead = λ p q. n (q ∙ sym e ∙ sym p); back = λ p q. n (q ∙ e ∙ sym p) }
+same-kind a b r e n = record { ahead = λ p q. n (q ∙ sym e ∙ sym p); back = λ p q. absurd (n (q ∙ e ∙ sym p)) }
 
--- a rule of another pair of types marks nothing
+-- a rule without its types there marks nothing
 pub other-pair : (ks : List ℕ) (t : Turn) (at : ℕ) (r : Rule) {a b : ℕ} {m : List ℕ} → Forward t → 83 ≤ at → a ≡ getD ks at 0 → b ≡ getD ks (at - t .wp) 0
-    → ((eqb (r .type1) a && eqb (r .type2) b) || (eqb (r .type1) b && eqb (r .type2) a)) ≡ false → Marked (across ks t at r) m m
+    → faces a b r ≡ false → Marked (across ks t at r) m m
 other-pair ks t at r {a} {b} f g ea eb e = keep (across-none ks t f at g r (rw (ea, eb) at (faceless a b r e)))
 
 -- where the two squares are of one type, no rule marks anything

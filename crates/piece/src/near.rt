@@ -46,11 +46,15 @@ fn mark_from(kinds: &[u8; 6724], marks: &mut [u8; 6724], r: Rule, all: bool, t: 
     mark_rule(kinds, marks, all, t, i, r);
 }
 
-// The same, crossed both ways, and along both ways.
+// The same, crossed both ways, and along both ways; a rule that is not fourway has the one direction only.
 fn mark_across(kinds: &[u8; 6724], marks: &mut [u8; 6724], r: Rule, t: Turn, at: usize)
     requires { ⌜ Local (now kinds) (now marks) × Steps t × (83 ≤ at) × (at < 6724) × (r .ce ≤ 16) ⌝ }
     ensures { λ _. ⌜ Marked (across (now (kinds .entry)) t at r) (now (marks .entry)) (now (marks .exit)) ⌝ }
 {
+    mark_from(kinds, marks, r, true, t, at);
+    if r.fourway == 0 {
+        return;
+    }
     let e = Turn {
         wp: t.wp,
         wm: t.wm,
@@ -69,7 +73,6 @@ fn mark_across(kinds: &[u8; 6724], marks: &mut [u8; 6724], r: Rule, t: Turn, at:
         ep: t.em,
         em: t.ep,
     };
-    mark_from(kinds, marks, r, true, t, at);
     mark_from(kinds, marks, r, false, e, at);
     mark_from(kinds, marks, r, false, w, at);
     mark_from(kinds, marks, r, false, b, at);
@@ -106,7 +109,7 @@ fn chain_rules(rules: &[u16], used: usize) -> [u16; 768]
     chains
 }
 
-// The same for rule i, past a rule of another pair of types than a and b, which stand at the edge.
+// The same for rule i, past a rule that does not go between the types at the edge: from b to a, or back if it is fourway.
 fn mark_nth(
     kinds: &[u8; 6724],
     marks: &mut [u8; 6724],
@@ -124,7 +127,8 @@ fn mark_nth(
 {
     let first = rules[8 * i];
     let second = rules[8 * i + 1];
-    let faces = ((first == a) & (second == b)) | ((first == b) & (second == a));
+    let fourway = rules[8 * i + 6] != 0;
+    let faces = ((first == b) & (second == a)) | ((first == a) & (second == b) & fourway);
     if faces {
         let r = rule_at(rules, i);
         mark_across(kinds, marks, r, t, at);
