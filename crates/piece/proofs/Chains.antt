@@ -107,7 +107,7 @@ pair-skip ks ws i l t at u none M = relabel M (λ q.
     (λ e. let h = some-has l f e in
     ⊎-elim (λ (v : h .0 < i). some-at i f (h .0) v (h .2)) (λ (v : i ≤ h .0). absurd (true≢false (sym (h .2) ∙ none (h .0) v (h .1) q))) (lt-or-ge (h .0) i)))
 
-module _ (ks ws : List ℕ) (n : ℕ) (t : Turn) (at : ℕ) {a b : ℕ} (f : Forward t) (g : 83 ≤ at) (ea : a ≡ getD ks at 0) (eb : b ≡ getD ks (at - t .wp) 0) where
+module _ (ks ws : List ℕ) (n : ℕ) (t : Turn) (at : ℕ) {a b : ℕ} (f : Forward t) (g : 82 ≤ at) (ea : a ≡ getD ks at 0) (eb : b ≡ getD ks (at - t .wp) 0) where
   -- a rule of another cell marks nothing
   not-here : (j : ℕ) → (cellAt ws j ≡ cell a b → ⊥) → (q : ℕ) → across ks t at (ruleAt ws j) q ≡ false
   not-here j o = across-none ks t f at g (ruleAt ws j) (rw (ea, eb) at (other-cell a b (ruleAt ws j) o))

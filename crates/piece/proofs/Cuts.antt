@@ -1,11 +1,11 @@
 -- Tiles clipped one after another make the local picture. A later tile covers no square of an earlier one, so each fill adds that tile's squares and changes nothing else.
-use Prim.Native.Nat.{ℕ, zero, suc, _+_, _-_, _*_, _/_, _%_, _<_, _≤_, min, max}
+use Prim.Native.Nat.{ℕ, zero, suc, _+_, _-_, _*_, _/_, _%_, _<_, _≤_, min}
 use native.Mathlib.Omega.{arith}
 use native.Mathlib.Numerals.{add-one}
 use mathlib.Core.Bool.{Bool, true, false, cond, true≢false}
 use mathlib.Core.List.{List, [], _∷_}
 use mathlib.Core.Path.{_≡_, refl, sym, _∙_, ap}
-use mathlib.Core.Logic.{_⊎_, inl, inr, ⊎-elim}
+use mathlib.Core.Logic.{⊎-elim}
 use lib.ListN.{length, getD, replicate, length-replicate, getD-replicate}
 use Rattle.plane.specs.declared.tile.Tile.{Tile}
 use Rattle.plane.specs.declared.tile.Area.{Area}
@@ -221,35 +221,21 @@ cut-small {lo} {hi} {ox} {oy} {ws} {ks} P c q = ⊎-elim
     past (a ∷ l) zero h = absurd (omega arith)
     past (a ∷ l) (suc n) h = past l n (omega arith)
 
--- rows outside the part that is cut out are of one type
-outer-row : (lo hi w h : ℕ) (p : Picture) (ox oy : ℕ) (ks : List ℕ) → CutOut lo hi w h p ox oy ks → (q : ℕ) → q < 6724 → (q < lo * 82) ⊎ (hi * 82 ≤ q) → getD ks q 0 ≡ outside
-outer-row lo hi w h p ox oy ks c q l o =
-    let e : q ≡ q / 82 * 82 + q % 82 = omega arith in
-    ap (λ n. getD ks n 0) e ∙ c .kind (q % 82) (q / 82) (omega arith) (omega arith)
-    ∙ ap (λ b. cond b (kindAt w h p (ox + q % 82) (oy + q / 82)) outside)
-    (is-false (inArea (part lo hi) (q % 82) (q / 82)) (λ z.
-    let i = within (part lo hi) (q % 82) (q / 82) z in
-    ⊎-elim (λ (u : q < lo * 82). omega (arith, i .low)) (λ (u : hi * 82 ≤ q). omega (arith, i .high)) o))
+-- ---- where it has edges
+module _ {lo hi w h : ℕ} {p : Picture} {ox oy : ℕ} {ks : List ℕ} {to : ℕ} (c : CutOut lo hi w h p ox oy ks) (s : lo + hi ≡ 82) (t : to ≡ min 82 (hi + 1)) where
+  -- square q is not cut out if that would put `at` in columns and rows lo up to `to`, where it is not
+  outer : (q at : ℕ) → q < 6724 → (Within (part lo hi) (q % 82) (q / 82) → Within (part lo to) (at % 82) (at / 82)) → inArea (part lo to) (at % 82) (at / 82) ≡ false → getD ks q 0 ≡ outside
+  outer q at l step o =
+      let e : q ≡ q / 82 * 82 + q % 82 = omega arith in
+      ap (λ n. getD ks n 0) e ∙ c .kind (q % 82) (q / 82) (omega arith) (omega arith)
+      ∙ ap (λ b. cond b (kindAt w h p (ox + q % 82) (oy + q / 82)) outside)
+      (is-false (inArea (part lo hi) (q % 82) (q / 82)) (λ z. true≢false (sym (area-of (part lo to) (at % 82) (at / 82) (step (within (part lo hi) (q % 82) (q / 82) z))) ∙ o)))
 
-module _ {lo hi w h : ℕ} {p : Picture} {ox oy : ℕ} {ks : List ℕ} {from to : ℕ} (c : CutOut lo hi w h p ox oy ks) (f : from ≡ max 83 (lo * 82)) (t : to ≡ min 6723 (hi * 82 + 82)) where
-  beyond : (at d : ℕ) → 83 ≤ at → at < 6723 → d ≤ 82 → (at < from) ⊎ (to ≤ at) → (at - d < lo * 82) ⊎ (hi * 82 ≤ at - d)
-  beyond at d a b l o = ⊎-elim
-      (λ (u : at < from). inl (let v : at < lo * 82 = omega (arith, f, u, a) in omega (arith, v)))
-      (λ (u : to ≤ at). inr (let v : hi * 82 + 82 ≤ at = omega (arith, t, u, b) in omega (arith, v, l)))
-      o
-
-  alike : (at d : ℕ) → 83 ≤ at → at < 6723 → d ≤ 82 → (at < from) ⊎ (to ≤ at) → getD ks (at - d) 0 ≡ getD ks at 0
-  alike at d a b l o =
-      let z : at - 0 ≡ at = omega arith in
-      outer-row lo hi w h p ox oy ks c (at - d) (omega arith) (beyond at d a b l o)
-      ∙ sym (ap (λ n. getD ks n 0) (sym z) ∙ outer-row lo hi w h p ox oy ks c (at - 0) (omega arith) (beyond at 0 a b (omega arith) o))
-
-  -- so no edge is there
-  pub cut-still : from ≤ to → Still ks from to
+  -- a step to the right or up from what is cut out stays in columns and rows lo up to one more, so no edge is outside
+  pub cut-still : lo ≤ hi → Still ks lo to
   cut-still o = record {
-    low = omega (arith, f);
-    order = o;
-    high = omega (arith, t);
-    side = λ at a b u. alike at 1 a b (omega arith) u;
-    below = λ at a b u. alike at 82 a b (omega arith) u;
+    order = omega (arith, t, s);
+    most = omega (arith, t);
+    side = λ at a b u. outer (at - 1) at (omega arith) (λ i. omega (arith, i, t, s)) u ∙ sym (outer at at (omega arith) (λ i. omega (arith, i, t)) u);
+    below = λ at a b u. outer (at - 82) at (omega arith) (λ i. omega (arith, i, t)) u ∙ sym (outer at at (omega arith) (λ i. omega (arith, i, t)) u);
   }

@@ -1,22 +1,24 @@
 -- Marking from each edge once is the same as the sweeps: a direction's edge is found at the later of its two squares, and where nothing differs there is none.
-use Prim.Native.Nat.{ℕ, _+_, _-_, _<_, _≤_}
+use Prim.Native.Nat.{ℕ, _+_, _-_, _*_, _/_, _%_, _<_, _≤_, max}
 use mathlib.Core.Bool.{Bool, true, false, not, _&&_, _||_, true≢false, and-false, or-false}
 use mathlib.Core.List.{List}
 use mathlib.Core.Path.{_≡_, refl, sym, _∙_, ap}
-use mathlib.Core.Logic.{_⊎_, inl, inr, ⊎-elim}
+use mathlib.Core.Logic.{⊎-elim}
 use native.Mathlib.Omega.{arith}
 use lib.ListN.{getD}
 use lib.Dec.{eqb, leb, ltb}
 use borrow.Author.Tests.{eq-eqb, eqb-true, not-false, leb-true, ltb-true, le-leb, lt-ltb, le-ltb, lt-leb}
-use Rattle.plane.proofs.Basics.{and-both, and-left, and-right, lt-or-ge}
+use Rattle.plane.specs.Picture.{area, inArea}
+use Rattle.plane.proofs.Basics.{and-both, and-left, and-right}
 use Rattle.rules.specs.declared.rule.Rule.{Rule}
 use Rattle.rules.specs.Words.{ruleAt, Apart}
 use Rattle.rules.specs.Forbid.{right, left, up, down}
+use Rattle.rules.proofs.Window.{within}
 use Rattle.rules.proofs.Searches.{some-at, some-has, some-none, or-left, or-right, or-cases, same-truth}
 use Rattle.piece.specs.declared.edge.Turn.{Turn}
 use Rattle.piece.specs.Edge.{Marked, Steps, edgeAt, hit, goes, goesHit, turn}
-use Rattle.piece.specs.Near.{Ruled, flipE, flipW, hitFrom, across, acrossAll, edgesAt, edgesTo, Forward, Still, hits, swept, sweeps}
-use Rattle.piece.proofs.Truths.{is-false, four1, four2, four3, four4, split4, split8}
+use Rattle.piece.specs.Near.{Ruled, flipE, flipW, hitFrom, across, acrossAll, edgesAt, edgesTo, edgesOver, Forward, Still, hits, swept, sweeps}
+use Rattle.piece.proofs.Truths.{is-false, is-true, four1, four2, four3, four4, split4, split8}
 use Rattle.piece.proofs.Marking.{keep, relabel, and-then, start, more, hit-none}
 
 -- ---- one direction
@@ -86,7 +88,7 @@ edge-types ks r t at e = (
   eqb-true (getD ks (at + t .wm - t .wp) 0) (r .type1) (and-right (eqb (getD ks at 0) (r .type2)) (eqb (getD ks (at + t .wm - t .wp) 0) (r .type1)) e),
 )
 
-module _ (ks : List ℕ) (t : Turn) (f : Forward t) (at : ℕ) (g : 83 ≤ at) (r : Rule) (n : Faceless (getD ks at 0) (getD ks (at - t .wp) 0) r) where
+module _ (ks : List ℕ) (t : Turn) (f : Forward t) (at : ℕ) (g : 82 ≤ at) (r : Rule) (n : Faceless (getD ks at 0) (getD ks (at - t .wp) 0) r) where
   ahead-none : (e : Turn) → e .wm ≡ t .wm → e .wp ≡ t .wp → edgeAt ks r e (at - e .wm) ≡ false
   ahead-none e p q = is-false (edgeAt ks r e (at - e .wm)) (λ z.
       let y = edge-types ks r e (at - e .wm) z in
@@ -133,26 +135,26 @@ same-kind : (a b : ℕ) (r : Rule) → a ≡ b → Apart r → Faceless a b r
 same-kind a b r e n = record { ahead = λ p q. n (q ∙ sym e ∙ sym p); back = λ p q. absurd (n (q ∙ e ∙ sym p)) }
 
 -- a rule without its types there marks nothing
-pub other-pair : (ks : List ℕ) (t : Turn) (at : ℕ) (r : Rule) {a b : ℕ} {m : List ℕ} → Forward t → 83 ≤ at → a ≡ getD ks at 0 → b ≡ getD ks (at - t .wp) 0
+pub other-pair : (ks : List ℕ) (t : Turn) (at : ℕ) (r : Rule) {a b : ℕ} {m : List ℕ} → Forward t → 82 ≤ at → a ≡ getD ks at 0 → b ≡ getD ks (at - t .wp) 0
     → faces a b r ≡ false → Marked (across ks t at r) m m
 other-pair ks t at r {a} {b} f g ea eb e = keep (across-none ks t f at g r (rw (ea, eb) at (faceless a b r e)))
 
 -- where the two squares are of one type, no rule marks anything
-pub one-type : (ks ws : List ℕ) (n : ℕ) (t : Turn) (at : ℕ) {a b : ℕ} {m : List ℕ} → Forward t → 83 ≤ at → Ruled ws n → a ≡ getD ks at 0 → b ≡ getD ks (at - t .wp) 0 → a ≡ b → Marked (acrossAll ks ws n t at) m m
+pub one-type : (ks ws : List ℕ) (n : ℕ) (t : Turn) (at : ℕ) {a b : ℕ} {m : List ℕ} → Forward t → 82 ≤ at → Ruled ws n → a ≡ getD ks at 0 → b ≡ getD ks (at - t .wp) 0 → a ≡ b → Marked (acrossAll ks ws n t at) m m
 unfolding acrossAll
 one-type ks ws n t at f g ok ea eb e =
     keep (λ q. some-none n (λ i. across ks t at (ruleAt ws i) q)
     (λ i l. across-none ks t f at g (ruleAt ws i) (same-kind (getD ks at 0) (getD ks (at - t .wp) 0) (ruleAt ws i) (sym ea ∙ e ∙ eb) (ok .apart i l)) q))
 
 -- so nothing is marked at a square of the type of both neighbours
-pub no-edges : (ks ws : List ℕ) (n at : ℕ) {a b d : ℕ} {m : List ℕ} → 83 ≤ at → Ruled ws n → a ≡ getD ks at 0 → b ≡ getD ks (at - 1) 0 → d ≡ getD ks (at - 82) 0 → (eqb b a && eqb d a) ≡ true → Marked (edgesAt ks ws n at) m m
+pub no-edges : (ks ws : List ℕ) (n at : ℕ) {a b d : ℕ} {m : List ℕ} → 82 ≤ at → Ruled ws n → a ≡ getD ks at 0 → b ≡ getD ks (at - 1) 0 → d ≡ getD ks (at - 82) 0 → (eqb b a && eqb d a) ≡ true → Marked (edgesAt ks ws n at) m m
 unfolding edgesAt
 no-edges ks ws n at {a} {b} {d} g ok ea eb ed e =
     and-then
     (one-type ks ws n (turn right up) at (record { steps = omega arith; back = refl }) g ok ea eb (sym (eqb-true b a (and-left (eqb b a) (eqb d a) e))))
     (one-type ks ws n (turn up left) at (record { steps = omega arith; back = refl }) g ok ea ed (sym (eqb-true d a (and-right (eqb b a) (eqb d a) e))))
 
--- ---- one rule more, and one index more
+-- ---- one rule more, one index more, and one row more
 pub pair-start : (ks ws : List ℕ) (t : Turn) (at : ℕ) {m : List ℕ} → Marked (acrossAll ks ws 0 t at) m m
 unfolding acrossAll
 pair-start ks ws t at = start (λ i q. across ks t at (ruleAt ws i) q)
@@ -168,6 +170,14 @@ edges-start ks ws n from = start (λ k q. edgesAt ks ws n (from + k) q)
 pub edges-more : (ks ws : List ℕ) (n from k : ℕ) {m m₁ m₂ : List ℕ} → Marked (edgesTo ks ws n from k) m m₁ → Marked (edgesAt ks ws n (from + k)) m₁ m₂ → Marked (edgesTo ks ws n from (k + 1)) m m₂
 unfolding edgesTo
 edges-more ks ws n from k a b = more (λ k q. edgesAt ks ws n (from + k) q) k a b
+
+pub rows-start : (ks ws : List ℕ) (n from l : ℕ) {m : List ℕ} → Marked (edgesOver ks ws n from l 0) m m
+unfolding edgesOver
+rows-start ks ws n from l = start (λ j q. edgesTo ks ws n (from + 82 * j) l q)
+
+pub rows-more : (ks ws : List ℕ) (n from l j : ℕ) {m m₁ m₂ : List ℕ} → Marked (edgesOver ks ws n from l j) m m₁ → Marked (edgesTo ks ws n (from + 82 * j) l) m₁ m₂ → Marked (edgesOver ks ws n from l (j + 1)) m m₂
+unfolding edgesOver
+rows-more ks ws n from l j a b = more (λ j q. edgesTo ks ws n (from + 82 * j) l q) j a b
 
 -- one of a rule's four directions at an edge
 module _ (ks : List ℕ) (t : Turn) (at : ℕ) (r : Rule) (q : ℕ) where
@@ -188,15 +198,23 @@ module _ (ks : List ℕ) (t : Turn) (at : ℕ) (r : Rule) (q : ℕ) where
   across4 e = four4 (hitFrom ks true t at r q) (hitFrom ks false (flipE t) at r q) (hitFrom ks false (flipW t) at r q) (hitFrom ks false (flipW (flipE t)) at r q) e
 
 -- ---- every edge of the sweeps is found
-module _ (ks ws : List ℕ) (n from to : ℕ) (ok : Ruled ws n) (s : Still ks from to) (q : ℕ) where
+-- column c of row r, counted from column lo of row y on
+square-from : (lo y c r : ℕ) → lo ≤ c → y ≤ r → y * 82 + lo + 82 * (r - y) + (c - lo) ≡ r * 82 + c
+square-from lo y c r a b = omega arith
+
+module _ (ks ws : List ℕ) (n lo hi y : ℕ) (ok : Ruled ws n) (s : Still ks lo hi) (first : y ≡ max 1 lo) (q : ℕ) where
+  -- in columns and rows lo up to hi
+  abbrev inside : ℕ → Bool
+  inside at = inArea (area lo lo hi hi) (at % 82) (at / 82)
+
   -- where a direction's edge is found: at the later of its two squares
   module _ (all : Bool) (t : Turn) where
     unfoldable Found : Type 0
-    Found = (at : ℕ) × (from ≤ at) × (at < to) × (i : ℕ) × (i < n) × (hitFrom ks all t at (ruleAt ws i) q ≡ true)
+    Found = (at : ℕ) × (83 ≤ at) × (inside at ≡ true) × (i : ℕ) × (i < n) × (hitFrom ks all t at (ruleAt ws i) q ≡ true)
 
-    -- a direction's neighbours are alike outside from .. to
+    -- a direction's neighbours are alike outside
     abbrev Calm : Type 0
-    Calm = (at : ℕ) → 83 ≤ at → at < 6723 → (at < from) ⊎ (to ≤ at) → getD ks (at - t .wm) 0 ≡ getD ks (at - t .wp) 0
+    Calm = (at : ℕ) → 83 ≤ at → at < 6723 → inside at ≡ false → getD ks (at - t .wm) 0 ≡ getD ks (at - t .wp) 0
 
     swept-found : Calm → t .wm ≤ 82 → swept ks ws n all t q ≡ true → Found
     unfolding swept hits goesHit hit Found
@@ -211,52 +229,39 @@ module _ (ks ws : List ℕ) (n from to : ℕ) (ok : Ruled ws n) (s : Still ks fr
         let differ : getD ks (at - t .wm) 0 ≡ getD ks (at - t .wp) 0 → ⊥ = (λ z. ok .apart (i .0) (i .1) (sym (y .1) ∙ sym z ∙ ap (λ m. getD ks m 0) b ∙ y .0)) in
         let m : at < 6723 = omega (arith, k .1) in
         let g : 83 ≤ at = omega arith in
-        let lo : from ≤ at = least (λ u. differ (calm at g m (inl u))) in
-        let hi : at < to = below (λ u. differ (calm at g m (inr u))) in
-        (at, lo, hi, i .0, i .1, sym (here ks all t at r (omega arith) (omega (arith, k .1)) q) ∙ ap (λ m. goesHit ks all t m r q) b ∙ i .2)
-      where
-        least : {x : ℕ} → (x < from → ⊥) → from ≤ x
-        least {x} f = ⊎-elim (λ (u : x < from). absurd (f u)) (λ u. u) (lt-or-ge x from)
-
-        below : {x : ℕ} → (to ≤ x → ⊥) → x < to
-        below {x} f = ⊎-elim (λ u. u) (λ (u : to ≤ x). absurd (f u)) (lt-or-ge x to)
-
-    found-swept : Found → swept ks ws n all t q ≡ true
-    unfolding swept hits Found
-    found-swept f =
-        let at = f .0 in
-        let h = from-in ks all t at (ruleAt ws (f .3)) q (f .5) in
-        let e : 83 + (at - t .wm - 83) ≡ at - t .wm = omega (arith, h .0) in
-        some-at 6558 (λ k. hits ks ws n all t (83 + k) q) (at - t .wm - 83) (omega (arith, h .0, h .1))
-        (some-at n (λ i. goesHit ks all t (83 + (at - t .wm - 83)) (ruleAt ws i) q) (f .3) (f .4) (ap (λ m. goesHit ks all t m (ruleAt ws (f .3)) q) e ∙ h .2))
+        (at, g, is-true (inside at) (λ u. differ (calm at g m u)), i .0, i .1, sym (here ks all t at r (omega arith) (omega (arith, k .1)) q) ∙ ap (λ m. goesHit ks all t m r q) b ∙ i .2)
 
   -- ---- the eight directions
-  calm-right : (at : ℕ) → 83 ≤ at → at < 6723 → (at < from) ⊎ (to ≤ at) → getD ks (at - 0) 0 ≡ getD ks (at - 1) 0
+  calm-right : (at : ℕ) → 83 ≤ at → at < 6723 → inside at ≡ false → getD ks (at - 0) 0 ≡ getD ks (at - 1) 0
   calm-right at a b o = let z : at - 0 ≡ at = omega arith in ap (λ m. getD ks m 0) z ∙ sym (s .side at a b o)
 
-  calm-left : (at : ℕ) → 83 ≤ at → at < 6723 → (at < from) ⊎ (to ≤ at) → getD ks (at - 1) 0 ≡ getD ks (at - 0) 0
+  calm-left : (at : ℕ) → 83 ≤ at → at < 6723 → inside at ≡ false → getD ks (at - 1) 0 ≡ getD ks (at - 0) 0
   calm-left at a b o = sym (calm-right at a b o)
 
-  calm-up : (at : ℕ) → 83 ≤ at → at < 6723 → (at < from) ⊎ (to ≤ at) → getD ks (at - 0) 0 ≡ getD ks (at - 82) 0
+  calm-up : (at : ℕ) → 83 ≤ at → at < 6723 → inside at ≡ false → getD ks (at - 0) 0 ≡ getD ks (at - 82) 0
   calm-up at a b o = let z : at - 0 ≡ at = omega arith in ap (λ m. getD ks m 0) z ∙ sym (s .below at a b o)
 
-  calm-down : (at : ℕ) → 83 ≤ at → at < 6723 → (at < from) ⊎ (to ≤ at) → getD ks (at - 82) 0 ≡ getD ks (at - 0) 0
+  calm-down : (at : ℕ) → 83 ≤ at → at < 6723 → inside at ≡ false → getD ks (at - 82) 0 ≡ getD ks (at - 0) 0
   calm-down at a b o = sym (calm-up at a b o)
 
   goal : Bool
-  goal = edgesTo ks ws n from (to - from) q
+  goal = edgesOver ks ws n (y * 82 + lo) (hi - lo) (hi - y) q
 
-  reach : (at : ℕ) → from ≤ at → at < to → edgesAt ks ws n at q ≡ true → goal ≡ true
-  unfolding goal edgesTo
-  reach at a b e =
-      let z : from + (at - from) ≡ at = omega arith in
-      some-at (to - from) (λ k. edgesAt ks ws n (from + k) q) (at - from) (omega arith) (ap (λ m. edgesAt ks ws n m q) z ∙ e)
+  reach : (at : ℕ) → 83 ≤ at → inside at ≡ true → edgesAt ks ws n at q ≡ true → goal ≡ true
+  unfolding goal edgesOver edgesTo
+  reach at g b e =
+      let a = within (area lo lo hi hi) (at % 82) (at / 82) b in
+      let r : y ≤ at / 82 = omega (arith, a .low) in
+      let z : at / 82 * 82 + at % 82 ≡ at = omega arith in
+      some-at (hi - y) (λ j. edgesTo ks ws n (y * 82 + lo + 82 * j) (hi - lo) q) (at / 82 - y) (omega (arith, a .high))
+      (some-at (hi - lo) (λ k. edgesAt ks ws n (y * 82 + lo + 82 * (at / 82 - y) + k) q) (at % 82 - lo) (omega (arith, a .left-of, a .right-of))
+      (ap (λ m. edgesAt ks ws n m q) (square-from lo y (at % 82) (at / 82) (a .left-of) r ∙ z) ∙ e))
 
-  reach-side : (at i : ℕ) → from ≤ at → at < to → i < n → across ks (turn right up) at (ruleAt ws i) q ≡ true → goal ≡ true
+  reach-side : (at i : ℕ) → 83 ≤ at → inside at ≡ true → i < n → across ks (turn right up) at (ruleAt ws i) q ≡ true → goal ≡ true
   unfolding edgesAt acrossAll
   reach-side at i a b l e = reach at a b (or-left (acrossAll ks ws n (turn up left) at q) (some-at n (λ i. across ks (turn right up) at (ruleAt ws i) q) i l e))
 
-  reach-below : (at i : ℕ) → from ≤ at → at < to → i < n → across ks (turn up left) at (ruleAt ws i) q ≡ true → goal ≡ true
+  reach-below : (at i : ℕ) → 83 ≤ at → inside at ≡ true → i < n → across ks (turn up left) at (ruleAt ws i) q ≡ true → goal ≡ true
   unfolding edgesAt acrossAll
   reach-below at i a b l e = reach at a b (or-right (acrossAll ks ws n (turn right up) at q) (some-at n (λ i. across ks (turn up left) at (ruleAt ws i) q) i l e))
 
@@ -275,10 +280,15 @@ module _ (ks ws : List ℕ) (n from to : ℕ) (ok : Ruled ws n) (s : Still ks fr
       (λ z. let f = swept-found false (turn down right) calm-down (omega arith) z in reach-below (f .0) (f .3) (f .1) (f .2) (f .4) (across4 ks (turn up left) (f .0) (ruleAt ws (f .3)) q (f .5)))
       e
 
-  module _ (at : ℕ) (a : from ≤ at) (b : at < to) (i : ℕ) (l : i < n) where
+  module _ (at i : ℕ) (l : i < n) where
+    -- the sweep of a direction has what is found
     one-of : (all : Bool) (t : Turn) → hitFrom ks all t at (ruleAt ws i) q ≡ true → swept ks ws n all t q ≡ true
-    unfolding Found
-    one-of all t e = found-swept all t (at, a, b, i, l, e)
+    unfolding swept hits
+    one-of all t e =
+        let h = from-in ks all t at (ruleAt ws i) q e in
+        let z : 83 + (at - t .wm - 83) ≡ at - t .wm = omega (arith, h .0) in
+        some-at 6558 (λ k. hits ks ws n all t (83 + k) q) (at - t .wm - 83) (omega (arith, h .0, h .1))
+        (some-at n (λ i. goesHit ks all t (83 + (at - t .wm - 83)) (ruleAt ws i) q) i l (ap (λ m. goesHit ks all t m (ruleAt ws i) q) z ∙ h .2))
 
     -- the eight, in the sweeps' order
     s₁₂ : Bool
@@ -312,24 +322,23 @@ module _ (ks ws : List ℕ) (n from to : ℕ) (ok : Ruled ws n) (s : Still ks fr
         e
 
   from-edges : goal ≡ true → sweeps ks ws n q ≡ true
-  unfolding goal edgesTo edgesAt acrossAll
+  unfolding goal edgesOver edgesTo edgesAt acrossAll
   from-edges e =
-      let k = some-has (to - from) (λ k. edgesAt ks ws n (from + k) q) e in
-      let at = from + k .0 in
-      let b : at < to = omega (arith, k .1) in
-      let a : from ≤ at = omega arith in
+      let j = some-has (hi - y) (λ j. edgesTo ks ws n (y * 82 + lo + 82 * j) (hi - lo) q) e in
+      let k = some-has (hi - lo) (λ k. edgesAt ks ws n (y * 82 + lo + 82 * j .0 + k) q) (j .2) in
+      let at = y * 82 + lo + 82 * j .0 + k .0 in
       ⊎-elim
-      (λ z. let i = some-has n (λ i. across ks (turn right up) at (ruleAt ws i) q) z in from-side at a b (i .0) (i .1) (i .2))
-      (λ z. let i = some-has n (λ i. across ks (turn up left) at (ruleAt ws i) q) z in from-below at a b (i .0) (i .1) (i .2))
+      (λ z. let i = some-has n (λ i. across ks (turn right up) at (ruleAt ws i) q) z in from-side at (i .0) (i .1) (i .2))
+      (λ z. let i = some-has n (λ i. across ks (turn up left) at (ruleAt ws i) q) z in from-below at (i .0) (i .1) (i .2))
       (or-cases (acrossAll ks ws n (turn right up) at q) (acrossAll ks ws n (turn up left) at q) (k .2))
 
-  edges-sweep : edgesTo ks ws n from (to - from) q ≡ sweeps ks ws n q
+  edges-sweep : edgesOver ks ws n (y * 82 + lo) (hi - lo) (hi - y) q ≡ sweeps ks ws n q
   unfolding goal
   edges-sweep = same-truth goal (sweeps ks ws n q) from-edges to-edges
 
 -- the marks of all edges are those of the sweeps
-pub swept-all : (ks ws : List ℕ) (n from to : ℕ) {m m₁ : List ℕ} → Ruled ws n → Still ks from to → Marked (edgesTo ks ws n from (to - from)) m m₁ → Marked (sweeps ks ws n) m m₁
-swept-all ks ws n from to ok s a = relabel a (edges-sweep ks ws n from to ok s)
+pub swept-all : (ks ws : List ℕ) (n lo hi : ℕ) {y : ℕ} {m m₁ : List ℕ} → Ruled ws n → Still ks lo hi → y ≡ max 1 lo → Marked (edgesOver ks ws n (y * 82 + lo) (hi - lo) (hi - y)) m m₁ → Marked (sweeps ks ws n) m m₁
+swept-all ks ws n lo hi {y} ok s first a = relabel a (edges-sweep ks ws n lo hi y ok s first)
 
 -- ---- turned steps
 pub turned-along : {t : Turn} → Steps t → Steps (flipE t)

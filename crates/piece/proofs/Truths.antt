@@ -1,4 +1,4 @@
--- Truth values: what is not true is false, and one of four or eight.
+-- Truth values: what is not true is false and the other way round, and one of four or eight.
 use mathlib.Core.Bool.{Bool, true, false, _||_}
 use mathlib.Core.Path.{_≡_, refl}
 use mathlib.Core.Logic.{⊎-elim}
@@ -7,6 +7,10 @@ use Rattle.rules.proofs.Searches.{or-left, or-right, or-cases}
 pub is-false : (b : Bool) → (b ≡ true → ⊥) → b ≡ false
 is-false true f = absurd (f refl)
 is-false false f = refl
+
+pub is-true : (b : Bool) → (b ≡ false → ⊥) → b ≡ true
+is-true true f = refl
+is-true false f = absurd (f refl)
 
 -- ---- one of four, and one of eight
 pub four1 : (a b c d : Bool) → a ≡ true → (a || b || c || d) ≡ true

@@ -1,11 +1,11 @@
 -- Marks from the edges of a local picture, each found once; and the same in eight sweeps, one for each direction, which are closer to what the rules forbid.
-use Prim.Native.Nat.{ℕ, _+_, _-_, _*_, _<_, _≤_}
+use Prim.Native.Nat.{ℕ, _+_, _-_, _*_, _/_, _%_, _<_, _≤_}
 use mathlib.Core.Bool.{Bool, true, false, _&&_, _||_}
 use mathlib.Core.List.{List}
 use mathlib.Core.Path.{_≡_}
-use mathlib.Core.Logic.{_⊎_}
 use lib.ListN.{length, getD}
 use lib.Dec.{leb, ltb}
+use Rattle.plane.specs.Picture.{area, inArea}
 use Rattle.rules.specs.declared.rule.Rule.{Rule}
 use Rattle.rules.specs.Some.{some}
 use Rattle.rules.specs.Words.{ruleAt, Apart}
@@ -49,18 +49,21 @@ edgesAt ks ws n at q = acrossAll ks ws n (turn right up) at q || acrossAll ks ws
 unfoldable pub edgesTo : List ℕ → List ℕ → ℕ → ℕ → ℕ → ℕ → Bool
 edgesTo ks ws n from m q = some m λ k. edgesAt ks ws n (from + k) q
 
+-- from those of as many in each of `rows` rows, 82 indexes after the row before
+unfoldable pub edgesOver : List ℕ → List ℕ → ℕ → ℕ → ℕ → ℕ → ℕ → Bool
+edgesOver ks ws n from m rows q = some rows λ j. edgesTo ks ws n (from + 82 * j) m q
+
 -- a direction to the right or upward
 pub record Forward (t : Turn) : Type 0 where
   pub steps : Steps t
   pub back : t .wm ≡ 0
 
--- outside from .. to no square differs from the one left of it or below it
-pub record Still (ks : List ℕ) (from to : ℕ) : Type 0 where
-  pub low : 83 ≤ from
-  pub order : from ≤ to
-  pub high : to ≤ 6723
-  pub side : (at : ℕ) → 83 ≤ at → at < 6723 → (at < from) ⊎ (to ≤ at) → getD ks (at - 1) 0 ≡ getD ks at 0
-  pub below : (at : ℕ) → 83 ≤ at → at < 6723 → (at < from) ⊎ (to ≤ at) → getD ks (at - 82) 0 ≡ getD ks at 0
+-- outside columns and rows lo up to hi no square differs from the one left of it or below it
+pub record Still (ks : List ℕ) (lo hi : ℕ) : Type 0 where
+  pub order : lo < hi
+  pub most : hi ≤ 82
+  pub side : (at : ℕ) → 83 ≤ at → at < 6723 → inArea (area lo lo hi hi) (at % 82) (at / 82) ≡ false → getD ks (at - 1) 0 ≡ getD ks at 0
+  pub below : (at : ℕ) → 83 ≤ at → at < 6723 → inArea (area lo lo hi hi) (at % 82) (at / 82) ≡ false → getD ks (at - 82) 0 ≡ getD ks at 0
 
 -- ---- in sweeps
 -- does the edge of some rule at `at`, in one direction, forbid q

@@ -8,12 +8,12 @@ use plane::words::wide;
 use rules::rule::Rule;
 use rules::rule::rule_at;
 ghost use mathlib.Core.Path.{_≡_};
-ghost use Prim.Native.Nat.{ℕ, _+_, _-_, _*_, _≤_, _<_};
+ghost use Prim.Native.Nat.{ℕ, _+_, _-_, _*_, _≤_, _<_, max};
 ghost use lib.ListN.{length, getD};
 ghost use Rattle.rules.specs.Words.{ruleAt};
 ghost use Rattle.piece.specs.Chains.{cell, Linked, Chained};
 ghost use Rattle.piece.specs.Edge.{Marked, Local, Steps};
-ghost use Rattle.piece.specs.Near.{Ruled, hitFrom, across, acrossAll, edgesAt, edgesTo, Forward, Still, sweeps};
+ghost use Rattle.piece.specs.Near.{Ruled, hitFrom, across, acrossAll, edgesAt, edgesTo, edgesOver, Forward, Still, sweeps};
 
 // Crossed to the right, towards the upper end.
 const RIGHT_UP: Turn = Turn {
@@ -33,7 +33,7 @@ const UP_LEFT: Turn = Turn {
 
 // Marks what the rule forbids from the edge between `at` and the square before it, crossed in one direction.
 fn mark_from(kinds: &[u8; 6724], marks: &mut [u8; 6724], r: Rule, all: bool, t: Turn, at: usize)
-    requires { ⌜ Local (now kinds) (now marks) × Steps t × (83 ≤ at) × (at < 6724) × (r .ce ≤ 16) ⌝ }
+    requires { ⌜ Local (now kinds) (now marks) × Steps t × (82 ≤ at) × (at < 6724) × (r .ce ≤ 16) ⌝ }
     ensures { λ _. ⌜ Marked (hitFrom (now (kinds .entry)) all t at r) (now (marks .entry)) (now (marks .exit)) ⌝ }
 {
     let i = at - t.wm;
@@ -48,7 +48,7 @@ fn mark_from(kinds: &[u8; 6724], marks: &mut [u8; 6724], r: Rule, all: bool, t: 
 
 // The same, crossed both ways, and along both ways; a rule that is not fourway has the one direction only.
 fn mark_across(kinds: &[u8; 6724], marks: &mut [u8; 6724], r: Rule, t: Turn, at: usize)
-    requires { ⌜ Local (now kinds) (now marks) × Steps t × (83 ≤ at) × (at < 6724) × (r .ce ≤ 16) ⌝ }
+    requires { ⌜ Local (now kinds) (now marks) × Steps t × (82 ≤ at) × (at < 6724) × (r .ce ≤ 16) ⌝ }
     ensures { λ _. ⌜ Marked (across (now (kinds .entry)) t at r) (now (marks .entry)) (now (marks .exit)) ⌝ }
 {
     mark_from(kinds, marks, r, true, t, at);
@@ -120,7 +120,7 @@ fn mark_nth(
     a: u16,
     b: u16,
 )
-    requires { ⌜ Local (now kinds) (now marks) × Forward t × (83 ≤ at) × (at < 6724) ⌝ }
+    requires { ⌜ Local (now kinds) (now marks) × Forward t × (82 ≤ at) × (at < 6724) ⌝ }
     requires { ⌜ (8 * i + 8 ≤ length (now rules)) × (ruleAt (now rules) i .ce ≤ 16) ⌝ }
     requires { ⌜ (a ≡ getD (now kinds) at 0) × (b ≡ getD (now kinds) (at - t .wp) 0) ⌝ }
     ensures { λ _. ⌜ Marked (across (now (kinds .entry)) t at (ruleAt (now (rules .entry)) i)) (now (marks .entry)) (now (marks .exit)) ⌝ }
@@ -148,7 +148,7 @@ fn mark_pair(
     b: u16,
 )
     requires { ⌜ Chained (now rules) used 0 (now chains) ⌝ }
-    requires { ⌜ Local (now kinds) (now marks) × Ruled (now rules) used × Forward t × (83 ≤ at) × (at < 6724) ⌝ }
+    requires { ⌜ Local (now kinds) (now marks) × Ruled (now rules) used × Forward t × (82 ≤ at) × (at < 6724) ⌝ }
     requires { ⌜ (a ≡ getD (now kinds) at 0) × (b ≡ getD (now kinds) (at - t .wp) 0) ⌝ }
     ensures { λ _. ⌜ Marked (acrossAll (now (kinds .entry)) (now (rules .entry)) used t at) (now (marks .entry)) (now (marks .exit)) ⌝ }
 {
@@ -171,7 +171,7 @@ fn mark_side(
     at: usize,
 )
     requires { ⌜ Chained (now rules) used 0 (now chains) ⌝ }
-    requires { ⌜ Local (now kinds) (now marks) × Ruled (now rules) used × Forward t × (83 ≤ at) × (at < 6724) ⌝ }
+    requires { ⌜ Local (now kinds) (now marks) × Ruled (now rules) used × Forward t × (82 ≤ at) × (at < 6724) ⌝ }
     ensures { λ _. ⌜ Marked (acrossAll (now (kinds .entry)) (now (rules .entry)) used t at) (now (marks .entry)) (now (marks .exit)) ⌝ }
 {
     let a = kind_at(kinds, at);
@@ -192,7 +192,7 @@ fn mark_at(
     at: usize,
 )
     requires { ⌜ Chained (now rules) used 0 (now chains) ⌝ }
-    requires { ⌜ Local (now kinds) (now marks) × Ruled (now rules) used × (83 ≤ at) × (at < 6724) ⌝ }
+    requires { ⌜ Local (now kinds) (now marks) × Ruled (now rules) used × (82 ≤ at) × (at < 6724) ⌝ }
     ensures { λ _. ⌜ Marked (edgesAt (now (kinds .entry)) (now (rules .entry)) used at) (now (marks .entry)) (now (marks .exit)) ⌝ }
 {
     let kind = kind_at(kinds, at);
@@ -217,7 +217,7 @@ fn mark_range(
     n: usize,
 )
     requires { ⌜ Chained (now rules) used 0 (now chains) ⌝ }
-    requires { ⌜ Local (now kinds) (now marks) × Ruled (now rules) used × (83 ≤ from) × (from + n < 6724) ⌝ }
+    requires { ⌜ Local (now kinds) (now marks) × Ruled (now rules) used × (82 ≤ from) × (from + n ≤ 6724) ⌝ }
     ensures { λ _. ⌜ Marked (edgesTo (now (kinds .entry)) (now (rules .entry)) used from n) (now (marks .entry)) (now (marks .exit)) ⌝ }
 {
     let mut k: usize = 0;
@@ -227,18 +227,57 @@ fn mark_range(
     }
 }
 
-// Marks what the used rules forbid, all ways, on a picture with no edge outside from .. to.
+// The same in `rows` rows, each 82 indexes after the one before.
+fn mark_rows(
+    kinds: &[u8; 6724],
+    marks: &mut [u8; 6724],
+    rules: &[u16],
+    used: usize,
+    chains: &[u16; 768],
+    from: usize,
+    n: usize,
+    rows: usize,
+)
+    requires { ⌜ Chained (now rules) used 0 (now chains) ⌝ }
+    requires { ⌜ Local (now kinds) (now marks) × Ruled (now rules) used × (82 ≤ from) × (from + 82 * rows + n ≤ 6806) ⌝ }
+    ensures { λ _. ⌜ Marked (edgesOver (now (kinds .entry)) (now (rules .entry)) used from n rows) (now (marks .entry)) (now (marks .exit)) ⌝ }
+{
+    let mut j: usize = 0;
+    while j < rows {
+        mark_range(kinds, marks, rules, used, chains, from + 82 * j, n);
+        j += 1;
+    }
+}
+
+// The first row from lo on that has one below it.
+fn first_row(lo: usize) -> usize
+    ensures { λ r. ⌜ r ≡ max 1 lo ⌝ }
+{
+    if lo < 1 { 1 } else { lo }
+}
+
+// Marks what the used rules forbid, all ways, on a picture with no edge outside columns and rows lo up to hi.
 pub fn mark_near(
     kinds: &[u8; 6724],
     marks: &mut [u8; 6724],
     rules: &[u16],
     used: usize,
-    from: usize,
-    to: usize,
+    lo: usize,
+    hi: usize,
 )
-    requires { ⌜ Local (now kinds) (now marks) × Ruled (now rules) used × Still (now kinds) from to ⌝ }
+    requires { ⌜ Local (now kinds) (now marks) × Ruled (now rules) used × Still (now kinds) lo hi ⌝ }
     ensures { λ _. ⌜ Marked (sweeps (now (kinds .entry)) (now (rules .entry)) used) (now (marks .entry)) (now (marks .exit)) ⌝ }
 {
     let chains = chain_rules(rules, used);
-    mark_range(kinds, marks, rules, used, &chains, from, to - from);
+    let y = first_row(lo);
+    mark_rows(
+        kinds,
+        marks,
+        rules,
+        used,
+        &chains,
+        y * 82 + lo,
+        hi - lo,
+        hi - y,
+    );
 }

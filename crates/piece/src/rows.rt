@@ -5,7 +5,7 @@ use plane::tile::Area;
 use plane::words::wide;
 ghost use mathlib.Core.Bool.{true};
 ghost use mathlib.Core.Path.{_≡_};
-ghost use Prim.Native.Nat.{ℕ, _+_, _-_, _*_, _%_, _≤_, _<_, min, max};
+ghost use Prim.Native.Nat.{ℕ, _+_, _-_, _*_, _%_, _≤_, _<_, min};
 ghost use Rattle.plane.specs.Words.{width, height, pictureOf};
 ghost use Rattle.rules.specs.Words.{rulesOf};
 ghost use Rattle.piece.specs.Remark.{lowEnd, highEnd, nearArea, BlockIn, Checkable};
@@ -100,28 +100,20 @@ fn bits_of(marks: &[u8; 6724], x0: usize, y0: usize, nx: usize, ny: usize) -> [u
     rows
 }
 
-// The first index at which a local picture can have an edge, if only what is within 2 k + 1 of the block was cut out.
+// The first column (and row) in which a local picture can have an edge, if only what is within 2 k + 1 of the block was cut out.
 fn first_of(k: u16) -> usize
     requires { ⌜ k ≤ 16 ⌝ }
-    ensures { λ r. ⌜ (r ≡ max 83 ((32 - 2 * k) * 82)) × (r ≤ 2624) ⌝ }
+    ensures { λ r. ⌜ r ≡ 32 - 2 * k ⌝ }
 {
-    let a = (32 - 2 * wide(k)) * 82;
-    if a < 83 {
-        return 83;
-    }
-    a
+    32 - 2 * wide(k)
 }
 
-// The index after the last one.
+// The column after the last one.
 fn last_of(k: u16) -> usize
     requires { ⌜ k ≤ 16 ⌝ }
-    ensures { λ r. ⌜ (r ≡ min 6723 ((50 + 2 * k) * 82 + 82)) × (4182 ≤ r) ⌝ }
+    ensures { λ r. ⌜ r ≡ min 82 (50 + 2 * k + 1) ⌝ }
 {
-    let a = (50 + 2 * wide(k)) * 82 + 82;
-    if 6723 < a {
-        return 6723;
-    }
-    a
+    if k == 16 { 82 } else { 51 + 2 * wide(k) }
 }
 
 // The full check's marks of the window's squares within k of the block, k being the halo. Two local pictures are all the room that it takes.

@@ -1,6 +1,5 @@
 -- `mark_range`. Each turn adds one index more.
 use Rattle.piece.proofs.Edges.{edges-start, edges-more}
--- `mark_range`. Each turn adds one index more.
 use Rattle.piece.proofs.Marking.{local-on}
 use Rattle.piece.specs.Near.{edgesTo}
 use Rattle.piece.specs.Edge.{Marked}

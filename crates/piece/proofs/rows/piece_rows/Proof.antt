@@ -1,4 +1,4 @@
--- `piece_rows`. The cut has small types and no edge outside its rows, so the marks of its inner squares are the full check's, and the bits are those marks.
+-- `piece_rows`. The cut has small types and no edge outside its columns and rows, so the marks of its inner squares are the full check's, and the bits are those marks.
 use mathlib.Core.Path.{refl}
 use native.Mathlib.Omega.{arith}
 use Rattle.rules.specs.Forbid.{outside}
@@ -44,7 +44,7 @@ mark-near-requires : tie.Need-mark-near-requires
 mark-near-requires c κs =
     let p = c .before .before .before .before .before .before .before .before .before .before .before .before .before .before .pre in
     let k = c .before .before .before .before .cut .ensures in
-    (record { small = cut-small (p .plane) k; sized = search needs }, ruled p, cut-still k (c .before .first-of .ensures .0) (c .last-of .ensures .0) (omega (arith, c .before .first-of .ensures .1, c .last-of .ensures .1)))
+    (record { small = cut-small (p .plane) k; sized = search needs }, ruled p, rw (c .before .first-of .ensures) (cut-still k (omega (arith, halo-in p)) (c .last-of .ensures) (omega (arith, halo-in p))))
 
 bits-of-requires : tie.Need-bits-of-requires
 bits-of-requires c κs = search needs
