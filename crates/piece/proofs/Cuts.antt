@@ -1,30 +1,28 @@
--- Tiles clipped one after another make the local picture. A later tile covers no square of an earlier one, so each fill adds that tile's squares and changes nothing else.
+-- The local picture cut out row by row. A tile shows its type on all its rows, so a row of the area is the same up to the least top of its tiles, and copies of it are right up to there.
 use Prim.Native.Nat.{ℕ, zero, suc, _+_, _-_, _*_, _/_, _%_, _<_, _≤_, min}
 use native.Mathlib.Omega.{arith}
-use native.Mathlib.Numerals.{add-one}
 use mathlib.Core.Bool.{Bool, true, false, cond, true≢false}
 use mathlib.Core.List.{List, [], _∷_}
 use mathlib.Core.Path.{_≡_, refl, sym, _∙_, ap}
-use mathlib.Core.Logic.{⊎-elim}
+use mathlib.Core.Logic.{_⊎_, inl, inr, ⊎-elim}
 use lib.ListN.{length, getD, replicate, length-replicate, getD-replicate}
 use Rattle.plane.specs.declared.tile.Tile.{Tile}
 use Rattle.plane.specs.declared.tile.Area.{Area}
-use Rattle.plane.specs.Picture.{Picture, area, inArea, holds}
+use Rattle.plane.specs.Picture.{Picture, area, inArea}
 use Rattle.plane.specs.Words.{count, width, height, word, tileOf, pictureOf}
 use Rattle.plane.proofs.Basics.{lt-or-ge}
 use Rattle.plane.proofs.ToTable.{shown}
 use Rattle.piece.specs.Edge.{Small}
 use Rattle.piece.specs.Near.{Still}
-use Rattle.plane.specs.Plane.{Plane}
-use Rattle.plane.proofs.Index.{holds-true, true-holds}
+use Rattle.piece.specs.Remark.{lowEnd, highEnd, nearArea}
+use Rattle.plane.specs.Plane.{Plane, Names}
 use Rattle.rules.specs.Forbid.{kindAt, outside}
 use Rattle.rules.proofs.Searches.{same-truth}
 use Rattle.rules.proofs.Window.{Within, within, area-of}
-use Rattle.piece.specs.Fill.{FilledArea}
-use Rattle.piece.specs.Cut.{CutOut, clipped, clippedTile}
+use Rattle.piece.specs.Fill.{Filled, Drawn, rowOf}
+use Rattle.piece.specs.Cut.{CutOut, Cuttable, RowCut, placed, placedArea, around}
 use Rattle.piece.proofs.Truths.{is-false}
-use Rattle.piece.proofs.Fills.{area-empty}
-use Rattle.piece.proofs.Tiles.{shownBy, kind-next, kind-zero}
+use Rattle.piece.proofs.Fills.{drawn-none, drawn-here, drawn-as, drawn-right, drawn-up, drawn-row}
 
 -- the part of a local picture that is cut out, and the window in the plane
 abbrev part : ℕ → ℕ → Area
@@ -32,59 +30,6 @@ part lo hi = area lo lo hi hi
 
 abbrev pub window : ℕ → ℕ → Area
 window w h = area 33 33 (33 + w) (33 + h)
-
--- ---- clipping
-module _ (lo hi o a u : ℕ) (r : 33 ≤ o + u) (g : lo ≤ u) (l : u < hi) where
-  clip-from : clipped lo hi o a ≤ u → a ≤ o + u - 33
-  clip-from p = let q : min hi (a + 33 - o) ≤ u = omega arith in let z : a + 33 - o ≤ u = omega (arith, l) in omega (arith, z, r)
-
-  clip-below : u < clipped lo hi o a → o + u - 33 < a
-  clip-below p = let q : u < min hi (a + 33 - o) = omega (arith, p, g) in let z : u < a + 33 - o = omega (arith, q) in omega (arith, z, r)
-
-  from-clip : a ≤ o + u - 33 → clipped lo hi o a ≤ u
-  from-clip p = let z : a + 33 - o ≤ u = omega (arith, p, r) in omega (arith, z, g)
-
-  below-clip : o + u - 33 < a → u < clipped lo hi o a
-  below-clip p = let z : u < a + 33 - o = omega (arith, p, r) in omega (arith, z, l)
-
-module _ (lo hi o a b u : ℕ) (r : 33 ≤ o + u) (g : lo ≤ u) (l : u < hi) where
-  clip-in : clipped lo hi o a ≤ u → u < clipped lo hi o b → (a ≤ o + u - 33) × (o + u - 33 < b)
-  clip-in p q = (clip-from lo hi o a u r g l p, clip-below lo hi o b u r g l q)
-
-  clip-out : a ≤ o + u - 33 → o + u - 33 < b → (clipped lo hi o a ≤ u) × (u < clipped lo hi o b)
-  clip-out p q = (from-clip lo hi o a u r g l p, below-clip lo hi o b u r g l q)
-
--- the ends of a tile in one direction
-pub clip-span : (o : ℕ) {lo hi a b x1 x2 : ℕ} → lo ≤ hi → hi ≤ 82 → a < b → x1 ≡ clipped lo hi o a → x2 ≡ clipped lo hi o b → (x1 ≤ x2) × (x2 ≤ 82)
-clip-span o {lo} {hi} {a} {b} l m n e f = (rw (e, f) (ordered lo hi o a b n), rw f (bounded lo hi o b l m))
-  where
-    ordered : (lo hi o a b : ℕ) → a < b → clipped lo hi o a ≤ clipped lo hi o b
-    ordered lo hi o a b l = omega arith
-
-    bounded : (lo hi o a : ℕ) → lo ≤ hi → hi ≤ 82 → clipped lo hi o a ≤ 82
-    bounded lo hi o a l m = omega arith
-
--- a tile below the part that is cut out, and one above it
-pub tile-below : (lo hi ox oy : ℕ) (t : Tile) {m : List ℕ} → lo ≤ hi → t .top + 33 ≤ oy + lo → FilledArea (t .kind) (clippedTile lo hi ox oy t) m m
-tile-below lo hi ox oy t {m} s u = area-empty (t .kind) (clippedTile lo hi ox oy t) m (λ x y i. none (t .bottom) (t .top) y (i .low) (i .high) u)
-  where
-    none : (b e y : ℕ) → clipped lo hi oy b ≤ y → y < clipped lo hi oy e → e + 33 ≤ oy + lo → ⊥
-    none b e y p q r = omega (arith, p, q, r, s)
-
-pub tile-above : (lo hi ox oy : ℕ) (t : Tile) {m : List ℕ} → lo ≤ hi → oy + hi ≤ t .bottom + 33 → FilledArea (t .kind) (clippedTile lo hi ox oy t) m m
-tile-above lo hi ox oy t {m} s u = area-empty (t .kind) (clippedTile lo hi ox oy t) m (λ x y i. none (t .bottom) (t .top) y (i .low) (i .high) u)
-  where
-    none : (b e y : ℕ) → clipped lo hi oy b ≤ y → y < clipped lo hi oy e → oy + hi ≤ b + 33 → ⊥
-    none b e y p q r = omega (arith, p, q, r, s)
-
--- a tile of which nothing is left
-pub clip-none : (lo hi ox oy : ℕ) (t : Tile) (m : List ℕ) {x1 x2 : ℕ} → x1 ≡ clipped lo hi ox (t .left) → x2 ≡ clipped lo hi ox (t .right) → x2 ≤ x1 → FilledArea (t .kind) (clippedTile lo hi ox oy t) m m
-clip-none lo hi ox oy t m e f l =
-    let q : clipped lo hi ox (t .right) ≤ clipped lo hi ox (t .left) = rw (e, f) at l in
-    area-empty (t .kind) (clippedTile lo hi ox oy t) m (λ x y i. ends i q)
-  where
-    ends : {a b c d x y : ℕ} → Within (area a b c d) x y → c ≤ a → ⊥
-    ends i q = omega (arith, i .left-of, i .right-of)
 
 -- ---- a window's square
 pub kindAt-in : (w h : ℕ) (p : Picture) (x y : ℕ) → inArea (window w h) x y ≡ true → kindAt w h p x y ≡ p (x - 33) (y - 33)
@@ -95,98 +40,197 @@ pub kindAt-out : (w h : ℕ) (p : Picture) (x y : ℕ) → inArea (window w h) x
 unfolding kindAt
 kindAt-out w h p x y e = rw (e, kindAt)
 
-blank : (w h : ℕ) (p : Picture) (x y : ℕ) → ((a b : ℕ) → p a b ≡ 0) → kindAt w h p x y ≡ 0
-unfolding outside
-blank w h p x y z = go (inArea (window w h) x y) refl
-  where
-    go : (b : Bool) → inArea (window w h) x y ≡ b → kindAt w h p x y ≡ 0
-    go true e = kindAt-in w h p x y e ∙ z (x - 33) (y - 33)
-    go false e = kindAt-out w h p x y e
+-- ---- one row
+-- a place of the local picture between those of two columns (or rows) is that of one between them
+unplaced : (b c e u : ℕ) → 16 * b ≤ c + 33 → placed b c ≤ u → u < placed b e → (c ≤ 16 * b + u - 33) × (16 * b + u - 33 < e)
+unplaced b c e u l i j = (omega arith, omega arith)
 
-cond-same : (b : Bool) (n : ℕ) → n ≡ 0 → cond b n 0 ≡ 0
-cond-same true n e = e
-cond-same false n e = refl
-
-pub cut-start : (lo hi : ℕ) (ws : List ℕ) (ox oy : ℕ) → CutOut lo hi (width ws) (height ws) (shownBy ws 0) ox oy (replicate 6724 outside)
-unfolding outside
-cut-start lo hi ws ox oy = record {
-  long = length-replicate {A = ℕ} 6724 0;
-  kind = λ u v a b.
-      getD-replicate 6724 (v * 82 + u) 0 0 (omega arith)
-      ∙ sym (cond-same (inArea (part lo hi) u v) (kindAt (width ws) (height ws) (shownBy ws 0) (ox + u) (oy + v)) (blank (width ws) (height ws) (shownBy ws 0) (ox + u) (oy + v) (kind-zero ws)));
+-- up to the first column nothing is drawn
+pub row-start : {p : Picture} {bx by x1 y y2 : ℕ} {m : List ℕ} → y < y2 → RowCut p bx by (area x1 y x1 y2) y2 m m
+row-start l = record {
+  drawn = drawn-none (λ u v i. omega (arith, i .left-of, i .right-of));
+  some = l;
+  most = omega arith;
+  same = λ x z g h _ _. absurd (omega arith);
 }
 
-module _ (lo hi : ℕ) (ws : List ℕ) (P : Plane ws) (ox oy i : ℕ) (l : i < count ws) where
-  -- the tile's part of the local picture
-  here : ℕ → ℕ → Bool
-  here u v = inArea (clippedTile lo hi ox oy (tileOf ws i)) u v
+-- tile j, which holds the square at x, shows one type up to r
+module _ {ws : List ℕ} (P : Plane ws) {bx by x1 y x2 y2 : ℕ} (C : Cuttable (width ws) (height ws) bx by (area x1 y x2 y2)) (j : ℕ) {x r : ℕ} (N : Names ws j x y) (l : x1 ≤ x) (g : x ≤ r) (e : r ≤ word ws j 2) (f : r ≤ x2) where
+  held : (x′ z : ℕ) → x ≤ x′ → x′ < r → y ≤ z → z < word ws j 3 → pictureOf ws x′ z ≡ word ws j 4
+  held x′ z p q s t = shown ws P j x′ z (N .counted)
+      (record { from-left = omega (arith, N .held .from-left); to-right = omega arith; from-bottom = omega (arith, N .held .from-bottom); to-top = t })
 
-  module _ (u v : ℕ) where
-    old : ℕ
-    old = kindAt (width ws) (height ws) (shownBy ws i) (ox + u) (oy + v)
+  row-drawn : {m m₁ : List ℕ} → length m ≡ 6724 → Filled (word ws j 4) (placed by y * 82 + placed bx x) (placed by y * 82 + placed bx r) m m₁
+      → Drawn (around bx by (pictureOf ws)) (area (placed bx x) (placed by y) (placed bx r) (placed by y + 1)) m m₁
+  row-drawn sized q =
+      drawn-as (λ u v i.
+      let a = unplaced bx x r u (omega (arith, C .left-of)) (i .left-of) (i .right-of) in
+      let e = row v (i .low) (i .high) in
+      sym (held (16 * bx + u - 33) (16 * by + v - 33) (a .0) (a .1) (omega (arith, e)) (omega (arith, e, N .held .to-top))))
+      (drawn-row sized (omega (arith, C)) (omega (arith, C)) q)
+    where
+      row : (v : ℕ) → placed by y ≤ v → v < placed by y + 1 → 16 * by + v - 33 ≡ y
+      row v a b = omega (arith, C .low)
 
-    new : ℕ
-    new = kindAt (width ws) (height ws) (shownBy ws (suc i)) (ox + u) (oy + v)
+  row-next : {top : ℕ} {m m₁ m₂ : List ℕ} → length m ≡ 6724 → RowCut (pictureOf ws) bx by (area x1 y x y2) top m m₁ → Filled (word ws j 4) (placed by y * 82 + placed bx x) (placed by y * 82 + placed bx r) m₁ m₂
+      → RowCut (pictureOf ws) bx by (area x1 y r y2) (min top (word ws j 3)) m m₂
+  row-next {top} sized c q = record {
+    drawn = drawn-right (omega arith) (omega arith) (c .drawn) (row-drawn (c .drawn .long ∙ sized) q);
+    some = omega (arith, N .held .to-top, c .some);
+    most = omega (arith, c .most);
+    same = λ x′ z a b u v. go x′ z a b u v (lt-or-ge x′ x);
+  }
+    where
+      go : (x′ z : ℕ) → x1 ≤ x′ → x′ < r → y ≤ z → z < min top (word ws j 3) → (x′ < x) ⊎ (x ≤ x′) → pictureOf ws x′ z ≡ pictureOf ws x′ y
+      go x′ z a b u v (inl s) = c .same x′ z a s u (omega arith)
+      go x′ z a b u v (inr s) = held x′ z s b u (omega arith) ∙ sym (held x′ y s b (omega arith) (N .held .to-top))
 
-    is-here : here u v ≡ true → Within (clippedTile lo hi ox oy (tileOf ws i)) u v
-    unfolding here
-    is-here e = within (clippedTile lo hi ox oy (tileOf ws i)) u v e
+-- the tile that the code has read reaches past x
+pub tile-end : {ws : List ℕ} {i j x y x2 r : ℕ} {t : Tile} → Names ws i x y → j ≡ i → t ≡ tileOf ws j → r ≡ min (t .right) x2 → x < x2 → (x < r) × (r ≤ x2)
+tile-end {ws} {i} {j} {x} {y} {x2} {r} {t} N e f g l =
+    let a : word ws j 2 ≡ word ws i 2 = ap (λ (n : ℕ). word ws n 2) e in
+    let b : t .right ≡ word ws j 2 = ap (λ (s : Tile). s .right) f in
+    (omega (arith, N .held .to-right), omega arith)
 
-    held-here : Within (part lo hi) u v → Within (window (width ws) (height ws)) (ox + u) (oy + v) → here u v ≡ holds (tileOf ws i) (ox + u - 33) (oy + v - 33)
-    unfolding here
-    held-here a b = same-truth (here u v) (holds (tileOf ws i) (ox + u - 33) (oy + v - 33))
-        (λ e. let q = is-here e in
-        let x = clip-in lo hi ox (word ws i 0) (word ws i 2) u (b .left-of) (a .left-of) (a .right-of) (q .left-of) (q .right-of) in
-        let y = clip-in lo hi oy (word ws i 1) (word ws i 3) v (b .low) (a .low) (a .high) (q .low) (q .high) in
-        true-holds (tileOf ws i) (ox + u - 33) (oy + v - 33) (record { from-left = x .0; to-right = x .1; from-bottom = y .0; to-top = y .1 }))
-        (λ e. let q = holds-true (tileOf ws i) (ox + u - 33) (oy + v - 33) e in
-        let x = clip-out lo hi ox (word ws i 0) (word ws i 2) u (b .left-of) (a .left-of) (a .right-of) (q .from-left) (q .to-right) in
-        let y = clip-out lo hi oy (word ws i 1) (word ws i 3) v (b .low) (a .low) (a .high) (q .from-bottom) (q .to-top) in
-        area-of (clippedTile lo hi ox oy (tileOf ws i)) u v
-        (record { left-of = x .0; right-of = x .1; low = y .0; high = y .1 }))
+-- and fills its part of the row
+pub row-more : {ws : List ℕ} {bx by x1 y x2 y2 i j x r top n u v z : ℕ} {t : Tile} {m m₁ m₂ : List ℕ} → Plane ws → Cuttable (width ws) (height ws) bx by (area x1 y x2 y2)
+    → Names ws i x y → j ≡ i → t ≡ tileOf ws j → r ≡ min (t .right) x2 → n ≡ min top (t .top) → x1 ≤ x → x < x2 → length m ≡ 6724 → RowCut (pictureOf ws) bx by (area x1 y x y2) top m m₁
+    → v ≡ placed by y → u ≡ placed bx x → z ≡ placed bx r → Filled (t .kind) (v * 82 + u) (v * 82 + z) m₁ m₂
+    → RowCut (pictureOf ws) bx by (area x1 y r y2) n m m₂
+row-more {ws} {y = y} {x2 = x2} {i = i} {j = j} {x = x} {r = r} {top = top} {n = n} {t = t} P C N e f g k a l sized c ev eu ez q =
+    let w = tile-end N e f g l in
+    let o : n ≡ min top (word ws j 3) = k ∙ ap (λ (s : Tile). min top (s .top)) f in
+    rw o (row-next P C j (rw (sym e) at N) a (omega (arith, w .0)) (omega (arith, g, ap (λ (s : Tile). s .right) f)) (w .1) sized c (rw (f, ev, eu, ez) at q))
 
-    in-part : here u v ≡ true → inArea (part lo hi) u v ≡ true
-    in-part e = let q = is-here e in
-        area-of (part lo hi) u v (record { left-of = omega (arith, q .left-of); right-of = omega (arith, q .left-of, q .right-of); low = omega (arith, q .low); high = omega (arith, q .low, q .high) })
+-- ---- all rows
+-- a row, and copies of it up to `top`
+module _ {w h bx by x1 y x2 y2 : ℕ} (C : Cuttable w h bx by (area x1 y x2 y2)) {p : Picture} {top : ℕ} {m m₁ : List ℕ} (c : RowCut p bx by (area x1 y x2 y2) top m m₁) where
+  row-again : (u v : ℕ) → Within (area (placed bx x1) (placed by y + 1) (placed bx x2) (placed by top)) u v → rowOf m₁ (placed by y) u v ≡ around bx by p u v
+  row-again u v i =
+      let e : 16 * by + placed by y - 33 ≡ y = omega (arith, C .low) in
+      let a = unplaced bx x1 x2 u (C .left-of) (i .left-of) (i .right-of) in
+      let b = unplaced by y top v (C .low) (omega (arith, i .low)) (i .high) in
+      drawn-here (c .drawn) u (placed by y) (omega (arith, i .right-of, C .right-of)) (omega (arith, C .high, C .tall))
+      (record { left-of = i .left-of; right-of = i .right-of; low = omega arith; high = omega arith })
+      ∙ ap (λ n. p (16 * bx + u - 33) n) e
+      ∙ sym (c .same (16 * bx + u - 33) (16 * by + v - 33) (a .0) (a .1) (b .0) (b .1))
 
-    in-window : here u v ≡ true → inArea (window (width ws) (height ws)) (ox + u) (oy + v) ≡ true
-    in-window e =
-        let q = is-here e in
-        let k = P .boxes .box i l in
-        let k₁ : word ws i 2 ≤ width ws = k .inside in
-        let k₂ : word ws i 3 ≤ height ws = k .under in
-        area-of (window (width ws) (height ws)) (ox + u) (oy + v)
-        (record { left-of = omega (arith, q .left-of, q .right-of); right-of = omega (arith, q .left-of, q .right-of); low = omega (arith, q .low, q .high); high = omega (arith, q .low, q .high) })
+  rows-next : {y1 : ℕ} {m₀ m₂ : List ℕ} → y1 ≤ y → Drawn (around bx by p) (placedArea bx by (area x1 y1 x2 y)) m₀ m → Drawn (rowOf m₁ (placed by y)) (area (placed bx x1) (placed by y + 1) (placed bx x2) (placed by top)) m₁ m₂
+      → Drawn (around bx by p) (placedArea bx by (area x1 y1 x2 top)) m₀ m₂
+  rows-next l d q = drawn-up (omega arith) (omega (arith, c .some)) d (drawn-up (omega arith) (omega (arith, c .some, C .low)) (c .drawn) (drawn-as row-again q))
 
-    next : cond (here u v) (word ws i 4) (cond (inArea (part lo hi) u v) old outside) ≡ cond (inArea (part lo hi) u v) new outside
-    unfolding old new
-    next = go (inArea (part lo hi) u v) refl (inArea (window (width ws) (height ws)) (ox + u) (oy + v)) refl
-      where
-        go : (a : Bool) → inArea (part lo hi) u v ≡ a → (b : Bool) → inArea (window (width ws) (height ws)) (ox + u) (oy + v) ≡ b
-            → cond (here u v) (word ws i 4) (cond a old outside) ≡ cond a new outside
-        go false e b f = ap (λ z. cond z (word ws i 4) outside) (is-false (here u v) (λ z. true≢false (sym (in-part z) ∙ e)))
-        go true e false f =
-            ap (λ z. cond z (word ws i 4) old) (is-false (here u v) (λ z. true≢false (sym (in-window z) ∙ f)))
-            ∙ kindAt-out (width ws) (height ws) (shownBy ws i) (ox + u) (oy + v) f
-            ∙ sym (kindAt-out (width ws) (height ws) (shownBy ws (suc i)) (ox + u) (oy + v) f)
-        go true e true f =
-            ap (λ z. cond z (word ws i 4) old) (held-here (within (part lo hi) u v e) (within (window (width ws) (height ws)) (ox + u) (oy + v) f))
-            ∙ ap (λ z. cond (holds (tileOf ws i) (ox + u - 33) (oy + v - 33)) (word ws i 4) z) (kindAt-in (width ws) (height ws) (shownBy ws i) (ox + u) (oy + v) f)
-            ∙ sym (kindAt-in (width ws) (height ws) (shownBy ws (suc i)) (ox + u) (oy + v) f ∙ kind-next ws (P .one) i l (ox + u - 33) (oy + v - 33))
+-- ---- the whole area
+-- what is near the block is in the window and in the local picture
+pub near-cuttable : {w h k bx by : ℕ} {a : Area} → k ≤ 16 → 16 * bx < w → 16 * by < h → a ≡ nearArea w h (2 * k + 1) bx by → Cuttable w h bx by a
+near-cuttable {w} {h} {k} {bx} {by} s l g e = rw e (record {
+  left-of = omega arith;
+  wide = omega arith;
+  right-of = omega arith;
+  inside = omega arith;
+  low = omega arith;
+  tall = omega arith;
+  high = omega arith;
+  under = omega arith;
+})
 
-  pub cut-next : (m m₁ : List ℕ) → CutOut lo hi (width ws) (height ws) (shownBy ws i) ox oy m
-      → FilledArea (word ws i 4) (clippedTile lo hi ox oy (tileOf ws i)) m m₁
-      → CutOut lo hi (width ws) (height ws) (shownBy ws (suc i)) ox oy m₁
-  unfolding here old new
-  cut-next m m₁ c f = record {
-    long = f .long ∙ c .long;
-    kind = λ u v a b. f .square u v a b ∙ ap (λ z. cond (here u v) (word ws i 4) z) (c .kind u v a b) ∙ next u v;
+-- so is what is left of it from row y on
+pub cuttable-from : {w h bx by y : ℕ} {a : Area} → Cuttable w h bx by a → a .y1 ≤ y → y < a .y2 → Cuttable w h bx by (area (a .x1) y (a .x2) (a .y2))
+cuttable-from C l g = record { left-of = C .left-of; wide = C .wide; right-of = C .right-of; inside = C .inside; low = omega (arith, C .low); tall = g; high = C .high; under = C .under }
+
+-- m is m₀ with the area's rows below y drawn; i is the number of a tile
+pub record CutTo (ws : List ℕ) (bx by : ℕ) (a : Area) (i y : ℕ) (m₀ m : List ℕ) : Type 0 where
+  pub all : Cuttable (width ws) (height ws) bx by a
+  pub counted : i < count ws
+  pub from-low : a .y1 ≤ y
+  pub to-high : y ≤ a .y2
+  pub sized : length m ≡ 6724
+  pub drawn : Drawn (around bx by (pictureOf ws)) (placedArea bx by (area (a .x1) (a .y1) (a .x2) y)) m₀ m
+
+pub cut-start : {ws : List ℕ} {bx by : ℕ} {a : Area} {m : List ℕ} → Plane ws → Cuttable (width ws) (height ws) bx by a → m ≡ replicate 6724 outside → CutTo ws bx by a 0 (a .y1) m m
+cut-start P C e = record {
+  all = C;
+  counted = omega (arith, P .header .some);
+  from-low = omega arith;
+  to-high = omega (arith, C .tall);
+  sized = ap length e ∙ length-replicate 6724 outside;
+  drawn = drawn-none (λ u v i. omega (arith, i .low, i .high));
+}
+
+-- one row more and its copies, at the places that the code has computed
+pub cut-more : {ws : List ℕ} {bx by : ℕ} {a : Area} {i j y top u z v e : ℕ} {m₀ m m₁ m₂ : List ℕ} → CutTo ws bx by a i y m₀ m → j < count ws → y < a .y2 → RowCut (pictureOf ws) bx by (area (a .x1) y (a .x2) (a .y2)) top m m₁
+    → u ≡ placed bx (a .x1) → z ≡ placed bx (a .x2) → v ≡ placed by y → e ≡ placed by top → Drawn (rowOf m₁ v) (area u (v + 1) z e) m₁ m₂
+    → CutTo ws bx by a j top m₀ m₂
+cut-more l n g r eu ez ev ee q = record {
+  all = l .all;
+  counted = n;
+  from-low = omega (arith, l .from-low, r .some);
+  to-high = r .most;
+  sized = q .long ∙ r .drawn .long ∙ l .sized;
+  drawn = rows-next (cuttable-from (l .all) (l .from-low) g) r (l .from-low) (l .drawn) (rw (eu, ez, ev, ee) at q);
+}
+
+-- in one direction, the squares drawn are those of the window in the part that is cut out
+ends-in : (w k b u : ℕ) → k ≤ 16 → placed b (lowEnd (2 * k + 1) b) ≤ u → u < placed b (highEnd w (2 * k + 1) b) → (32 - 2 * k ≤ u) × (u < 50 + 2 * k) × (33 ≤ 16 * b + u) × (16 * b + u < 33 + w)
+ends-in w k b u s i j = (omega arith, omega arith, omega arith, omega arith)
+
+in-ends : (w k b u : ℕ) → k ≤ 16 → 32 - 2 * k ≤ u → u < 50 + 2 * k → 33 ≤ 16 * b + u → 16 * b + u < 33 + w → (placed b (lowEnd (2 * k + 1) b) ≤ u) × (u < placed b (highEnd w (2 * k + 1) b))
+in-ends w k b u s i j q r = (omega arith, omega arith)
+
+cond-same : (b : Bool) → _≡_ {A = ℕ} (cond b 0 0) 0
+cond-same true = refl
+cond-same false = refl
+
+-- all its rows drawn make the cut
+module _ (w h k bx by : ℕ) (p : Picture) (s : k ≤ 16) where
+  -- the squares drawn, and those that are cut out
+  near : Area
+  near = placedArea bx by (nearArea w h (2 * k + 1) bx by)
+
+  kept : Area
+  kept = part (32 - 2 * k) (50 + 2 * k)
+
+  near-in : (u v : ℕ) → Within near u v → Within kept u v × Within (window w h) (16 * bx + u) (16 * by + v)
+  unfolding near kept
+  near-in u v i =
+      let x = ends-in w k bx u s (i .left-of) (i .right-of) in
+      let y = ends-in h k by v s (i .low) (i .high) in
+      (record { left-of = x .0; right-of = x .1; low = y .0; high = y .1 }, record { left-of = x .2; right-of = x .3; low = y .2; high = y .3 })
+
+  in-near : (u v : ℕ) → Within kept u v → Within (window w h) (16 * bx + u) (16 * by + v) → Within near u v
+  unfolding near kept
+  in-near u v i j =
+      let x = in-ends w k bx u s (i .left-of) (i .right-of) (j .left-of) (j .right-of) in
+      let y = in-ends h k by v s (i .low) (i .high) (j .low) (j .high) in
+      record { left-of = x .0; right-of = x .1; low = y .0; high = y .1 }
+
+  -- outside the window nothing was drawn, and all is `outside`
+  drawn-kind : (u v : ℕ) (b : Bool) → inArea (window w h) (16 * bx + u) (16 * by + v) ≡ b → cond (inArea near u v) (around bx by p u v) outside ≡ cond (inArea kept u v) (kindAt w h p (16 * bx + u) (16 * by + v)) outside
+  unfolding outside
+  drawn-kind u v true e =
+      let j = within (window w h) (16 * bx + u) (16 * by + v) e in
+      ap (λ z. cond z (around bx by p u v) 0)
+      (same-truth (inArea near u v) (inArea kept u v) (λ f. area-of kept u v (near-in u v (within near u v f) .0)) (λ f. area-of near u v (in-near u v (within kept u v f) j)))
+      ∙ ap (λ z. cond (inArea kept u v) z 0) (sym (kindAt-in w h p (16 * bx + u) (16 * by + v) e))
+  drawn-kind u v false e =
+      ap (λ z. cond z (around bx by p u v) 0)
+      (is-false (inArea near u v) (λ f. true≢false (sym (area-of (window w h) (16 * bx + u) (16 * by + v) (near-in u v (within near u v f) .1)) ∙ e)))
+      ∙ sym (ap (λ z. cond (inArea kept u v) z 0) (kindAt-out w h p (16 * bx + u) (16 * by + v) e) ∙ cond-same (inArea kept u v))
+
+  cut-whole : {m : List ℕ} → Drawn (around bx by p) near (replicate 6724 outside) m → CutOut (32 - 2 * k) (50 + 2 * k) w h p (16 * bx) (16 * by) m
+  unfolding kept
+  cut-whole d = record {
+    long = d .long ∙ length-replicate 6724 outside;
+    kind = λ u v a b. d .square u v a b
+        ∙ ap (λ z. cond (inArea near u v) (around bx by p u v) z) (getD-replicate 6724 (v * 82 + u) outside 0 (omega arith))
+        ∙ drawn-kind u v (inArea (window w h) (16 * bx + u) (16 * by + v)) refl;
   }
 
--- for the tile that the code has read
-pub cut-more : {lo hi : ℕ} {ws : List ℕ} {ox oy : ℕ} (i : ℕ) {m m₁ : List ℕ} (t : Tile) → Plane ws → i < count ws → t ≡ tileOf ws i → CutOut lo hi (width ws) (height ws) (shownBy ws i) ox oy m → FilledArea (t .kind) (clippedTile lo hi ox oy t) m m₁
-    → CutOut lo hi (width ws) (height ws) (shownBy ws (i + 1)) ox oy m₁
-cut-more {lo} {hi} {ws} {ox} {oy} i {m} {m₁} t P l e c f = rw (add-one i) (cut-next lo hi ws P ox oy i l m m₁ c (rw e at f))
+pub cut-end : {ws : List ℕ} {k i y : ℕ} (bx by : ℕ) {a : Area} {m₀ m : List ℕ} → k ≤ 16 → a ≡ nearArea (width ws) (height ws) (2 * k + 1) bx by → m₀ ≡ replicate 6724 outside → a .y2 ≤ y → CutTo ws bx by a i y m₀ m
+    → CutOut (32 - 2 * k) (50 + 2 * k) (width ws) (height ws) (pictureOf ws) (16 * bx) (16 * by) m
+unfolding near
+cut-end {ws} {k} {i} {y} bx by {a} s e f g l =
+    let h : y ≡ a .y2 = omega (arith, l .to-high) in
+    cut-whole (width ws) (height ws) k bx by (pictureOf ws) s (rw (h, e, f) at (l .drawn))
 
 -- ---- what the local picture is good for
 kind-below : (ws : List ℕ) → Plane ws → (x y : ℕ) → kindAt (width ws) (height ws) (pictureOf ws) x y < 32

@@ -1,13 +1,13 @@
 -- The local picture of a block: 82 by 82 squares in one list, row by row, cut out of a window.
-use Prim.Native.Nat.{ℕ, _+_, _-_, _*_, _<_, _≤_, min, max}
+use Prim.Native.Nat.{ℕ, _+_, _-_, _*_, _<_, _≤_}
 use mathlib.Core.Bool.{cond}
 use mathlib.Core.List.{List}
 use mathlib.Core.Path.{_≡_}
 use lib.ListN.{length, getD}
-use Rattle.plane.specs.declared.tile.Tile.{Tile}
 use Rattle.plane.specs.declared.tile.Area.{Area}
 use Rattle.plane.specs.Picture.{Picture, area, inArea}
 use Rattle.rules.specs.Forbid.{kindAt, outside}
+use Rattle.piece.specs.Fill.{Drawn}
 
 -- the picture p of a window, from column and row lo up to hi of the local picture that begins at (ox,oy) of the plane; elsewhere what is outside the window
 pub record CutOut (lo hi w h : ℕ) (p : Picture) (ox oy : ℕ) (ks : List ℕ) : Type 0 where
@@ -15,17 +15,32 @@ pub record CutOut (lo hi w h : ℕ) (p : Picture) (ox oy : ℕ) (ks : List ℕ) 
   pub kind : (u v : ℕ) → u < 82 → v < 82 → getD ks (v * 82 + u) 0 ≡ cond (inArea (area lo lo hi hi) u v) (kindAt w h p (ox + u) (oy + v)) outside
 
 -- ---- steps
--- where column (or row) a of the window stands in a local picture that begins at o, moved into lo .. hi
-abbrev pub clipped : ℕ → ℕ → ℕ → ℕ → ℕ
-clipped lo hi o a = max lo (min hi (a + 33 - o))
+-- where column (or row) x of the window stands in the local picture of block b
+abbrev pub placed : ℕ → ℕ → ℕ
+placed b x = x + 33 - 16 * b
 
--- the part of the local picture that a tile holds
-abbrev pub clippedTile : ℕ → ℕ → ℕ → ℕ → Tile → Area
-clippedTile lo hi ox oy t = area (clipped lo hi ox (t .left)) (clipped lo hi oy (t .bottom)) (clipped lo hi ox (t .right)) (clipped lo hi oy (t .top))
+-- an area of the window in the local picture of the block at column bx, row by
+abbrev pub placedArea : ℕ → ℕ → Area → Area
+placedArea bx by a = area (placed bx (a .x1)) (placed by (a .y1)) (placed bx (a .x2)) (placed by (a .y2))
 
--- the numbers of a clipping: an area of a local picture, and where it begins
-pub record Clips (lo hi ox oy : ℕ) : Type 0 where
-  pub some : lo ≤ hi
-  pub most : hi ≤ 82
-  pub column : ox ≤ 1048576
-  pub row : oy ≤ 1048576
+-- the window's picture p, by columns and rows of the local picture
+abbrev pub around : ℕ → ℕ → Picture → Picture
+around bx by p u v = p (16 * bx + u - 33) (16 * by + v - 33)
+
+-- the area is in a window w by h, and in the local picture
+pub record Cuttable (w h bx by : ℕ) (a : Area) : Type 0 where
+  pub left-of : 16 * bx ≤ a .x1 + 33
+  pub wide : a .x1 < a .x2
+  pub right-of : a .x2 ≤ 16 * bx + 49
+  pub inside : a .x2 ≤ w
+  pub low : 16 * by ≤ a .y1 + 33
+  pub tall : a .y1 < a .y2
+  pub high : a .y2 ≤ 16 * by + 49
+  pub under : a .y2 ≤ h
+
+-- m′ is m with the area's lowest row drawn; up to `top` the rows of the area are all the same
+pub record RowCut (p : Picture) (bx by : ℕ) (a : Area) (top : ℕ) (m m′ : List ℕ) : Type 0 where
+  pub drawn : Drawn (around bx by p) (area (placed bx (a .x1)) (placed by (a .y1)) (placed bx (a .x2)) (placed by (a .y1) + 1)) m m′
+  pub some : a .y1 < top
+  pub most : top ≤ a .y2
+  pub same : (x y : ℕ) → a .x1 ≤ x → x < a .x2 → a .y1 ≤ y → y < top → p x y ≡ p x (a .y1)

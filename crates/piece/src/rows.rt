@@ -25,7 +25,7 @@ fn low_end(b: u16, k: u16) -> u16
 
 // The square after the last one, in a window w wide.
 fn high_end(b: u16, k: u16, w: u16) -> u16
-    requires { ⌜ (b < 256) × (k ≤ 32) ⌝ }
+    requires { ⌜ (b < 256) × (k ≤ 33) ⌝ }
     ensures { λ r. ⌜ r ≡ highEnd w k b ⌝ }
 {
     let a = 16 * b + 16 + k;
@@ -34,7 +34,7 @@ fn high_end(b: u16, k: u16, w: u16) -> u16
 
 // The window's squares within k of the block at column bx, row by; with k = 0 those of the block.
 pub fn near_area(w: u16, h: u16, bx: u16, by: u16, k: u16) -> Area
-    requires { ⌜ BlockIn w h bx by × (k ≤ 32) ⌝ }
+    requires { ⌜ BlockIn w h bx by × (k ≤ 33) ⌝ }
     ensures { λ r. ⌜ r ≡ nearArea w h k bx by ⌝ }
 {
     Area {

@@ -32,7 +32,9 @@ span-of-requires-2 c κs =
 
 cut-requires : tie.Need-cut-requires
 unfolding outside
-cut-requires c κs = (refl, c .before .before .before .before .before .before .before .before .before .pre .plane, halo-in (c .before .before .before .before .before .before .before .before .before .pre))
+cut-requires c κs =
+    let p = c .before .before .before .before .before .before .before .before .before .pre in
+    (refl, p .plane, halo-in p, p .column, p .row)
 
 first-of-requires : tie.Need-first-of-requires
 first-of-requires c κs = halo-in (c .before .before .before .before .before .before .before .before .before .before .before .before .pre)
