@@ -153,9 +153,64 @@ __attribute__((noinline)) void ask_settled(const layout_t *l, const rules_t *r, 
     }
 }
 
+/* The longest single call on the checked layout: a paint of each edit, of the whole window and of its lower half, a check of one piece, a report on the window.
+ * Each is timed twice and the shorter time counts, so that another process on the machine is not taken for a slow call. */
+static double timed_paint(const layout_t *l, const paint_t *p) {
+    static layout_t copy;
+    double least = -1;
+    for (int i = 0; i < 2; i++) {
+        copy = *l;
+        double t = now_us();
+        layout_paint(copy.material, WORDS, copy.errors, WORDS, copy.waiting, WORDS, work, WORDS, p->x1, p->y1, p->x2, p->y2, p->kind);
+        t = now_us() - t;
+        if (least < 0 || t < least) least = t;
+    }
+    return least;
+}
+
+static double timed_piece(const layout_t *l, const rules_t *r, const paint_t *p) {
+    static layout_t copy;
+    double least = -1;
+    for (int i = 0; i < 2; i++) {
+        copy = *l;
+        paint_one(&copy, p);
+        double t = now_us();
+        layout_check(copy.material, WORDS, copy.errors, WORDS, copy.waiting, WORDS, work, WORDS, r->words, 8 * RULES, r->used, 1);
+        t = now_us() - t;
+        if (least < 0 || t < least) least = t;
+    }
+    return least;
+}
+
+static double timed_report(const layout_t *l, const rules_t *r, uint16_t w, uint16_t h) {
+    double least = -1;
+    for (int i = 0; i < 2; i++) {
+        double t = now_us();
+        layout_report(l->material, WORDS, l->errors, WORDS, l->waiting, WORDS, r->words, 8 * RULES, r->used, 0, 0, w, h, listing, ROOM);
+        t = now_us() - t;
+        if (least < 0 || t < least) least = t;
+    }
+    return least;
+}
+
+static double longest_call(const layout_t *l, const rules_t *r, const paints_t *edits, uint16_t w, uint16_t h) {
+    const paint_t wide[] = {{0, 0, w, h, 1}, {0, 0, w, h, 0}, {0, 0, w, h / 2, 1}, {0, h / 2, w, h, 0}, {0, 0, 1, h, 1}, {w / 2, 0, w / 2 + 1, h, 2}};
+    double most = timed_report(l, r, w, h);
+    for (int i = 0; i < edits->count; i++) {
+        double t = timed_paint(l, edits->list + i), u = timed_piece(l, r, edits->list + i);
+        most = t > most ? t : most;
+        most = u > most ? u : most;
+    }
+    for (unsigned i = 0; i < sizeof wide / sizeof *wide; i++) {
+        double t = timed_paint(l, wide + i);
+        most = t > most ? t : most;
+    }
+    return most;
+}
+
 /* The best time of each phase over the rounds. */
-enum { PAINT, FULL, EDIT, POINT, VET, SETTLED, REPORT, PHASES };
-static const char *names[PHASES] = {"paint_us", "full_us", "edit_us", "point_us", "vet_us", "settled_us", "report_us"};
+enum { PAINT, FULL, EDIT, POINT, VET, SETTLED, REPORT, LONGEST, PHASES };
+static const char *names[PHASES] = {"paint_us", "full_us", "edit_us", "point_us", "vet_us", "settled_us", "report_us", "longest_us"};
 
 static void keep_least(double *best, int phase, double since, int parts) {
     double t = (now_us() - since) / parts;
@@ -185,6 +240,8 @@ static void one_round(layout_t *l, const rules_t *r, const paints_t *p, const pa
     t = now_us();
     ask_reports(l, r, p);
     keep_least(best, REPORT, t, ASKED);
+    double longest = longest_call(l, r, edits, w, h);
+    if (best[LONGEST] < 0 || longest < best[LONGEST]) best[LONGEST] = longest;
 }
 
 static int print_fitting(layout_t *l, uint16_t w, uint16_t h, const paints_t *p, int tiles) {
@@ -202,7 +259,7 @@ int main(int argc, char **argv) {
     static layout_t l;
     static rules_t r;
     static paints_t p, edits;
-    double best[PHASES] = {-1, -1, -1, -1, -1, -1, -1};
+    double best[PHASES] = {-1, -1, -1, -1, -1, -1, -1, -1};
     unsigned full = 0, pieces = 0;
     if (argc == 6 && !strcmp(argv[1], "fit")) {
         read_paints(argv[4], &p);
