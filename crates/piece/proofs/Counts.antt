@@ -17,9 +17,13 @@ use Rattle.piece.proofs.Blocks.{FoundIn, Waits, someIn-at, someIn-has, 
 use Rattle.piece.proofs.Truths.{is-false}
 
 -- ---- pieces that pass
-bit-split : (a b c : Bool) → (a ≡ true → (b ≡ true) ⊎ (c ≡ true)) → cond a 1 0 ≤ cond b 1 0 + cond c 1 0
+pub bit-split : (a b c : Bool) → (a ≡ true → (b ≡ true) ⊎ (c ≡ true)) → cond a 1 0 ≤ cond b 1 0 + cond c 1 0
 bit-split true b c f = ⊎-elim (λ e. rw e (omega arith)) (λ e. rw e (omega arith)) (f refl)
 bit-split false b c f = omega arith
+
+pub bit-le : (a b : Bool) → (a ≡ true → b ≡ true) → cond a 1 0 ≤ cond b 1 0
+bit-le true b f = rw (f refl) (omega arith)
+bit-le false b f = omega arith
 
 -- each that passes f passes g or k
 pieces-split : (w h : ℕ) (f g k : ℕ → ℕ → Bool) → ((bx by : ℕ) → f bx by ≡ true → (g bx by ≡ true) ⊎ (k bx by ≡ true)) → pieces w h f ≤ pieces w h g + pieces w h k

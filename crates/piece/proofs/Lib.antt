@@ -14,3 +14,4 @@ pub mod Views
 pub mod Bits
 pub mod Remarks
 pub mod Calms
+pub mod Sweeps

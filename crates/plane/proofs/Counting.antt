@@ -6,8 +6,8 @@ use native.Mathlib.Nat.{mul-comm, mul-add, zero-add, zero-mul, mul-zero}
 use mathlib.Core.Bool.{Bool, true, false, cond, _&&_}
 use mathlib.Core.Path.{_≡_, refl, sym, _∙_, ap}
 use mathlib.Core.Logic.{⊎-elim}
-use lib.Dec.{leb, ltb}
-use borrow.Author.Tests.{le-leb, lt-ltb, lt-leb, le-ltb}
+use lib.Dec.{eqb, leb, ltb}
+use borrow.Author.Tests.{eq-eqb, ne-eqb, le-leb, lt-ltb, lt-leb, le-ltb}
 use Rattle.plane.specs.declared.tile.Tile.{Tile}
 use Rattle.plane.specs.Strips.{Box, Holds}
 use Rattle.plane.specs.Picture.{sumTo}
@@ -53,7 +53,7 @@ unfolding sumTo
 sum-swap zero m f = sym (sum-zero m)
 sum-swap (suc n) m f = rw (sum-swap n m f) (sym (sum-add m (λ j. sumTo n (λ i. f i j)) (λ j. f n j)))
 
-sum-le : (n : ℕ) (f g : ℕ → ℕ) → ((i : ℕ) → i < n → f i ≤ g i) → sumTo n f ≤ sumTo n g
+pub sum-le : (n : ℕ) (f g : ℕ → ℕ) → ((i : ℕ) → i < n → f i ≤ g i) → sumTo n f ≤ sumTo n g
 unfolding sumTo
 sum-le zero f g h = omega arith
 sum-le (suc n) f g h = omega (arith, sum-le n f g (λ i u. h i (omega arith)), h n (omega arith))
@@ -90,6 +90,21 @@ sum-less (suc n) f g a l e h = ⊎-elim
     (λ (q : n ≡ a → ⊥). omega (arith, sum-less n f g a (omega (arith, q)) e (λ i j z. h i (omega arith) z), h n (omega arith) q))
     (eq-or-ne n a)
 
+-- two neighbours larger by no more than k together, the others no larger
+pub sum-pair : (n : ℕ) (f g : ℕ → ℕ) (a k : ℕ) → ((i : ℕ) → (i ≡ a → ⊥) → (i ≡ suc a → ⊥) → f i ≤ g i) → f a ≤ g a + k → f a + f (suc a) ≤ g a + g (suc a) + k → sumTo n f ≤ sumTo n g + k
+unfolding sumTo
+sum-pair zero f g a k h u v = omega arith
+sum-pair (suc n) f g a k h u v = ⊎-elim
+    (λ (p : n ≡ a). rw p (omega (arith, first)))
+    (λ (q : n ≡ a → ⊥). ⊎-elim
+    (λ (p : n ≡ suc a). rw p (omega (arith, first)))
+    (λ (r : n ≡ suc a → ⊥). omega (arith, sum-pair n f g a k h u v, h n q r))
+    (eq-or-ne n (suc a)))
+    (eq-or-ne n a)
+  where
+    first : sumTo a f ≤ sumTo a g
+    first = sum-le a f g (λ i l. h i (λ e. omega arith) (λ e. omega arith))
+
 sum-one : (n : ℕ) (f : ℕ → ℕ) (i : ℕ) → i < n → f i ≤ sumTo n f
 unfolding sumTo
 sum-one zero f i u = absurd (omega arith)
@@ -109,6 +124,16 @@ sum-single (suc n) f j u z =
     (λ (v : j < n). omega (arith, sum-single n f j v (λ i a. z i (omega arith)), z n (omega arith) (λ e. omega arith)))
     (λ (v : n ≤ j). let q : j ≡ n = omega arith in rw q (omega (arith, sum-eq n f (λ i. 0) (λ i a. z i (omega arith) (λ e. omega arith)), sum-zero n)))
     (lt-or-ge j n)
+
+-- the numbers that are a
+pub sum-at : (n a : ℕ) → sumTo n (λ i. cond (eqb i a) 1 0) ≤ 1
+sum-at n a = ⊎-elim
+    (λ (l : a < n). omega (arith, sum-single n (λ i. cond (eqb i a) 1 0) a l (λ i u ne. other i ne), ap {B = ℕ} (λ b. cond b 1 0) (eq-eqb a a refl)))
+    (λ (l : n ≤ a). omega (arith, sum-none n (λ i. cond (eqb i a) 1 0) (λ i u. other i (λ e. omega arith))))
+    (lt-or-ge a n)
+  where
+    other : (i : ℕ) → (i ≡ a → ⊥) → _≡_ {A = ℕ} (cond (eqb i a) 1 0) 0
+    other i ne = rw (ne-eqb i a ne)
 
 -- ---- the squares of a tile
 within : ℕ → ℕ → ℕ → ℕ

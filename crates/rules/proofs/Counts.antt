@@ -17,7 +17,7 @@ use Rattle.rules.specs.Macros.{cell, made, row, rowIf, rows, width, widt
 use Rattle.rules.specs.Expansion.{widthCount}
 use Rattle.rules.proofs.Sets.{bit, size, size-is, within-below, others-below}
 
-length-joined : {A : Type 0} (n : ℕ) (f : ℕ → List A) → length (joined n f) ≡ sumTo n (λ i. length (f i))
+pub length-joined : {A : Type 0} (n : ℕ) (f : ℕ → List A) → length (joined n f) ≡ sumTo n (λ i. length (f i))
 unfolding joined sumTo
 length-joined zero f = refl
 length-joined (suc n) f = length-append (joined n f) (f n) ∙ ap (λ x. x + length (f n)) (length-joined n f)
