@@ -1,7 +1,7 @@
 -- How many pieces pass a test: no more than those that pass one of two, and one fewer where one no longer does. So a paint adds no more waiting pieces than it touches, and a piece done takes one away.
 use Prim.Native.Nat.{ℕ, _+_, _/_, _≤_, _<_}
 use native.Mathlib.Omega.{arith}
-use mathlib.Core.Bool.{Bool, true, false, cond, _&&_}
+use mathlib.Core.Bool.{Bool, true, false, cond, _&&_, true≢false}
 use mathlib.Core.Path.{_≡_, refl, sym, _∙_, ap}
 use mathlib.Core.Logic.{_⊎_, inl, inr, ⊎-elim}
 use borrow.Author.Tests.{lt-ltb}
@@ -67,17 +67,21 @@ module _ (w h : ℕ) where
       someIn-at (x / 16) (y / 16) (waitsAt w h p) x y (record { left-of = omega arith; right-of = omega arith; low = omega arith; high = omega arith; passes = waits-at w h p x y i })
 
   -- a waiting piece has a waiting square
-  piece-has : (p : Picture) (bx by : ℕ) → pieceWaits w h p bx by ≡ true → (x : ℕ) × (y : ℕ) × FoundIn bx by (waitsAt w h p) x y × Waits w h p x y
+  pub piece-has : (p : Picture) (bx by : ℕ) → pieceWaits w h p bx by ≡ true → (x : ℕ) × (y : ℕ) × FoundIn bx by (waitsAt w h p) x y × Waits w h p x y
   unfolding pieceWaits
   piece-has p bx by e = let a = someIn-has bx by (waitsAt w h p) e in (a .0, a .1, a .2, waits-in w h p (a .0) (a .1) (a .2 .passes))
+
+  -- a piece that does not wait has none
+  pub idle-square : (p : Picture) (x y : ℕ) → x < w → y < h → pieceWaits w h p (x / 16) (y / 16) ≡ false → p x y ≡ 0
+  idle-square p x y u v e = ⊎-elim
+      (λ z. z)
+      (λ (n : p x y ≡ 0 → ⊥). absurd (true≢false (sym (square-waits p x y (record { column = u; row = v; kind = n })) ∙ e)))
+      (eq-or-ne (p x y) 0)
 
   -- no piece waits: no square does
   pub nothing-waits : (p : Picture) → waitingPieces w h p ≡ 0 → (x y : ℕ) → x < w → y < h → p x y ≡ 0
   unfolding waitingPieces
-  nothing-waits p e x y u v = ⊎-elim
-      (λ z. z)
-      (λ (n : p x y ≡ 0 → ⊥). absurd (none-pass w h (pieceWaits w h p) e (x / 16) (y / 16) (omega arith) (omega arith) (square-waits p x y (record { column = u; row = v; kind = n }))))
-      (eq-or-ne (p x y) 0)
+  nothing-waits p e x y u v = idle-square p x y u v (is-false (pieceWaits w h p (x / 16) (y / 16)) (none-pass w h (pieceWaits w h p) e (x / 16) (y / 16) (omega arith) (omega arith)))
 
   pub no-pieces : (p : Picture) → ((bx by : ℕ) → pieceWaits w h p bx by ≡ false) → waitingPieces w h p ≡ 0
   unfolding waitingPieces
@@ -88,7 +92,7 @@ module _ (w h : ℕ) where
   no-squares-wait p z = no-pieces p (λ bx by. is-false (pieceWaits w h p bx by) (λ e. let a = piece-has p bx by e in a .3 .kind (z (a .0) (a .1) (a .3 .column) (a .3 .row))))
 
   -- a piece on whose squares two pictures agree
-  piece-as : (p q : Picture) (bx by : ℕ) → ((x y : ℕ) → FoundIn bx by (waitsAt w h p) x y → Waits w h p x y → p x y ≡ q x y) → pieceWaits w h p bx by ≡ true → pieceWaits w h q bx by ≡ true
+  pub piece-as : (p q : Picture) (bx by : ℕ) → ((x y : ℕ) → FoundIn bx by (waitsAt w h p) x y → Waits w h p x y → p x y ≡ q x y) → pieceWaits w h p bx by ≡ true → pieceWaits w h q bx by ≡ true
   unfolding pieceWaits
   piece-as p q bx by same e =
       let a = piece-has p bx by e in

@@ -5,6 +5,7 @@ pub mod Fills
 pub mod Blocks
 pub mod Counts
 pub mod Waited
+pub mod SweptRows
 pub mod Cuts
 pub mod Marking
 pub mod Exchange

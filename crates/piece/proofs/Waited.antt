@@ -17,6 +17,7 @@ use Rattle.plane.proofs.ToTable.{shown}
 use Rattle.piece.specs.declared.waits.Block.the-variants.{At, Nothing}
 use Rattle.piece.specs.Fill.{Filled}
 use Rattle.piece.specs.Pieces.{blocks, waitsAt, pieces, pieceWaits, waitingPieces, lowestBlock, Lowest}
+use Rattle.piece.specs.Sweep.{WaitingRow}
 use Rattle.piece.specs.Waits.{Crosses, keyOf, KeyOf, Least, MarksTile, Columns, sumOf}
 use Rattle.piece.proofs.Truths.{is-false}
 use Rattle.piece.proofs.Blocks.{someIn-has, someIn-at, waits-at, waits-in, waits-inside, block-lowest}
@@ -130,16 +131,17 @@ module _ (ws : List ℕ) (P : Plane ws) where
   pub least-nothing : (m : ℕ) → Least ws (count ws) m → 65536 ≤ m → Nothing ≡ lowestBlock (width ws) (height ws) (pictureOf ws)
   least-nothing m l big = block-lowest (width ws) (height ws) (pictureOf ws) Nothing (lowest-none m l big)
 
-  -- ---- the count
-  -- the columns of a row of pieces are those that wait
-  columns-wait : (by : ℕ) (cs : List ℕ) → Columns ws by (count ws) cs → (bx : ℕ) → bx < 256 → getD cs bx 0 ≡ cond (waiting bx by) 1 0
+  -- ---- a row
+  -- with all tiles marked, the columns of a row of pieces are those that wait
+  pub columns-wait : {by : ℕ} {cs : List ℕ} → Columns ws by (count ws) cs → WaitingRow (width ws) (height ws) (pictureOf ws) by cs
   unfolding waiting
-  columns-wait by cs c bx l = go (waiting bx by) refl
+  columns-wait {by} {cs} c = record { long = c .long; each = λ bx l. go bx l (waiting bx by) refl }
     where
-      go : (b : Bool) → waiting bx by ≡ b → getD cs bx 0 ≡ cond b 1 0
-      go true e = let j = crosser bx by e in c .yes bx l (j .0) (j .1) (j .2)
-      go false e = c .no bx l (λ j u x. true≢false (sym (crossed j bx by u x) ∙ e))
+      go : (bx : ℕ) → bx < 256 → (b : Bool) → waiting bx by ≡ b → getD cs bx 0 ≡ cond b 1 0
+      go bx l true e = let j = crosser bx by e in c .yes bx l (j .0) (j .1) (j .2)
+      go bx l false e = c .no bx l (λ j u x. true≢false (sym (crossed j bx by u x) ∙ e))
 
+-- ---- the count
 -- the pieces of one row that wait
 unfoldable pub rowWaiting : ℕ → ℕ → Picture → ℕ → ℕ
 rowWaiting w h p by = sumTo (blocks w) λ bx. cond (pieceWaits w h p bx by) 1 0
@@ -154,13 +156,13 @@ bits-most (suc n) f = let q = bits-most n f in let z : cond (f n) 1 0 ≤ 1 = on
     one false = omega arith
 
 -- the sum of a row's columns, for a width that the code has read
-pub row-is : {ws : List ℕ} {y : ℕ} {cs : List ℕ} {v r : ℕ} → Plane ws → Columns ws y (count ws) cs → r ≡ sumOf cs ((v + 15) / 16) → v ≡ width ws
+pub row-is : {ws : List ℕ} {y : ℕ} {cs : List ℕ} {v r : ℕ} → Plane ws → WaitingRow (width ws) (height ws) (pictureOf ws) y cs → r ≡ sumOf cs ((v + 15) / 16) → v ≡ width ws
     → (r ≡ rowWaiting (width ws) (height ws) (pictureOf ws) y) × (r ≤ 256)
-unfolding rowWaiting waiting
+unfolding rowWaiting
 row-is {ws} {y} {cs} {v} {r} P c e f =
     let q : r ≡ rowWaiting (width ws) (height ws) (pictureOf ws) y =
     e ∙ ap (λ z. sumOf cs ((z + 15) / 16)) f
-    ∙ sum-eq (blocks (width ws)) (λ i. getD cs i 0) (λ bx. cond (waiting ws P bx y) 1 0) (λ i l. columns-wait ws P y cs c i (omega (arith, P .header .sizes .wide-most))) in
+    ∙ sum-eq (blocks (width ws)) (λ i. getD cs i 0) (λ bx. cond (pieceWaits (width ws) (height ws) (pictureOf ws) bx y) 1 0) (λ i l. c .each i (omega (arith, P .header .sizes .wide-most))) in
     (q, omega (arith, q, bits-most (blocks (width ws)) (λ bx. pieceWaits (width ws) (height ws) (pictureOf ws) bx y), P .header .sizes .wide-most))
 
 -- the sum of all rows

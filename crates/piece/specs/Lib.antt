@@ -7,6 +7,7 @@ pub mod Edge
 pub mod Chains
 pub mod Near
 pub mod Remark
+pub mod Sweep
 pub mod Rows
 pub mod Calm
 pub mod Worked

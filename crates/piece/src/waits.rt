@@ -1,4 +1,4 @@
-// The pieces that wait: the lowest, and how many. A piece waits exactly if a waiting tile crosses it.
+// The pieces that wait: the lowest, those of a row, and how many. A piece waits exactly if a waiting tile crosses it.
 use crate::fill::fill;
 use plane::tile::Tile;
 use plane::words::nth_tile;
@@ -11,7 +11,8 @@ ghost use Rattle.plane.specs.Words.{count, width, height, pictureOf};
 ghost use Rattle.plane.specs.Plane.{Plane};
 ghost use Rattle.plane.specs.Checks.{Boxed};
 ghost use Rattle.piece.specs.Pieces.{lowestBlock, waitingPieces};
-ghost use Rattle.piece.specs.Waits.{KeyOf, Least, MarksTile, Columns, sumOf};
+ghost use Rattle.piece.specs.Waits.{KeyOf, Least, MarksTile, sumOf};
+ghost use Rattle.piece.specs.Sweep.{WaitingRow, NextWaiting};
 
 // A piece by column and row, or none.
 pub enum Block {
@@ -82,9 +83,9 @@ fn mark_tile(cs: &mut [u8; 256], a: Tile, y: usize)
 }
 
 // The columns of row y of the pieces: 1 where one waits.
-fn row_of(t: &[u16], y: usize) -> [u8; 256]
+pub fn row_of(t: &[u16], y: usize) -> [u8; 256]
     requires { ⌜ Plane (now t) × (y < 256) ⌝ }
-    ensures { λ r. ⌜ Columns (now (t .entry)) y (count (now (t .entry))) r ⌝ }
+    ensures { λ r. ⌜ WaitingRow (width (now (t .entry))) (height (now (t .entry))) (pictureOf (now (t .entry))) y r ⌝ }
 {
     let n = wide(t[0]);
     let mut cs = [0u8; 256];
@@ -95,6 +96,21 @@ fn row_of(t: &[u16], y: usize) -> [u8; 256]
         i += 1;
     }
     cs
+}
+
+// The first column from i on that waits, or e.
+pub fn next_waiting(cs: &[u8; 256], i: u16, e: u16) -> u16
+    requires { ⌜ (i ≤ e) × (e ≤ 256) ⌝ }
+    ensures { λ r. ⌜ NextWaiting (now (cs .entry)) i e r ⌝ }
+{
+    let mut c = i;
+    while c < e {
+        if cs[wide(c)] != 0 {
+            return c;
+        }
+        c += 1;
+    }
+    c
 }
 
 // A byte as a count.

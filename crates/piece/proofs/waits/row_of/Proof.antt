@@ -1,6 +1,6 @@
--- `row_of`. Each turn marks the columns of one tile more.
+-- `row_of`. Each turn marks the columns of one tile more; with all marked, they are those that wait.
 use Rattle.piece.proofs.Tiles.{tile-fits}
-use Rattle.piece.proofs.Waited.{columns-none, columns-more}
+use Rattle.piece.proofs.Waited.{columns-none, columns-more, columns-wait}
 use Rattle.piece.specs.Waits.{Columns}
 use Rattle.plane.specs.Words.{count}
 use native.Mathlib.Omega.{arith}
@@ -41,7 +41,7 @@ loop-again : tie.Need-loop-again Inv-loop μ-loop
 loop-again c = (omega arith, columns-more (c .before .before .nth-tile .result) (c .before .before .nth-tile .ensures) (c .before .before .before .before .loop .inv .1) (c .mark-tile .ensures))
 
 returns : tie.Need-returns Inv-loop μ-loop
-returns c = let e : c .before .loop .i ≡ count (c .before .before .before .before .before .args .t .now) = omega arith in rw e at (c .before .loop .inv .1)
+returns c = let e : c .before .loop .i ≡ count (c .before .before .before .before .before .args .t .now) = omega arith in columns-wait (c .before .before .before .before .before .args .t .now) (c .before .before .before .before .before .pre .0) (rw e at (c .before .loop .inv .1))
 
 pub row-of-spec : {M : Type 1} → statement M
 row-of-spec =
