@@ -8,6 +8,7 @@ pub mod Shows
 pub mod MarkErrors
 pub mod OnePiece
 pub mod Turns
+pub mod RowSweep
 pub mod Checkings
 pub mod Runs
 pub mod CheckStays

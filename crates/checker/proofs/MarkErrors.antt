@@ -19,6 +19,7 @@ use Rattle.plane.proofs.Counting.{sum-tight}
 use Rattle.plane.proofs.FromTable.{table-plane, tiles-agree}
 use Rattle.plane.proofs.Tables.{written-count}
 use Rattle.strips.specs.Brush.{Small}
+use Rattle.paint.specs.Paint.{tableLike}
 use Rattle.paint.specs.Tables.{Paintable, PaintedTo}
 use Rattle.paint.proofs.Calls.{table-at}
 use Rattle.rules.specs.Words.{haloOf, rulesOf}
@@ -29,11 +30,9 @@ use Rattle.piece.specs.Remark.{BlockIn, Checkable, nearArea, nearBlock, remarke
 use Rattle.piece.specs.Rows.{PieceRows, NoMarks}
 use Rattle.piece.proofs.Calms.{calm-free}
 use Rattle.piece.proofs.Remarks.{block-in, halo-in, near-in, near-same, near-small, rules-near, stamped-piece, unmarked-piece}
-use Rattle.checker.specs.Check.{pieceErrors}
-use Rattle.checker.specs.CheckSteps.{NothingMarked, PieceIn, Remade}
-use Rattle.checker.specs.Layout.{Layout, room}
+use Rattle.checker.specs.CheckSteps.{MarkIn, NothingMarked, Remade, errorsNear}
 use Rattle.checker.proofs.Paints.{made, paintable-room}
-use Rattle.checker.proofs.Shapes.{layout-words, marks-area}
+use Rattle.checker.proofs.Shapes.{marks-area}
 
 -- ---- an area without a type
 -- a sum that is 0 has no other term
@@ -101,84 +100,87 @@ module _ {c r : ℕ} {ws us : List ℕ} {a : Area} {q : Picture} (T : Paintable 
     leaves = e ∙ made (paintable-room T) W u;
   }
 
--- pictures that agree in the window have one table
-agree-to : {ws vs : List ℕ} {r : Bool} {p q : Picture} → ((x y : ℕ) → x < width ws → y < height ws → p x y ≡ q x y) → Remade ws p r vs → Remade ws q r vs
+-- a table has its picture's tiles
+pub count-tiles : {c : ℕ} {ws : List ℕ} → IsTable c ws → count ws ≡ length (tiles (width ws) (height ws) (pictureOf ws))
 unfolding table
-agree-to {ws} {vs} {r} {p} {q} f R =
-    let e = tiles-agree (width ws) (height ws) p q f in
-    record {
-      fits = R .fits ∙ ap (λ (n : ℕ). leb n (roomIn (length ws))) (ap length e);
-      leaves = R .leaves ∙ ap (λ (z : List ℕ). cond r z ws) (ap (written (roomIn (length ws)) (width ws) (height ws) (kinds ws)) e);
-    }
+count-tiles {c} {ws} T = ap count (T .same) ∙ written-count c (width ws) (height ws) (kinds ws) (tiles (width ws) (height ws) (pictureOf ws))
+
+-- pictures that agree in the window have one table
+pub like-agree : (ws : List ℕ) {p q : Picture} → ((x y : ℕ) → x < width ws → y < height ws → p x y ≡ q x y) → tableLike ws p ≡ tableLike ws q
+unfolding table
+like-agree ws {p} {q} f = ap (written (roomIn (length ws)) (width ws) (height ws) (kinds ws)) (tiles-agree (width ws) (height ws) p q f)
+
+agree-to : {ws vs : List ℕ} {r : Bool} {p q : Picture} → ((x y : ℕ) → x < width ws → y < height ws → p x y ≡ q x y) → Remade ws p r vs → Remade ws q r vs
+agree-to {ws} {vs} {r} {p} {q} f R = record {
+  fits = R .fits ∙ ap (λ (n : ℕ). leb n (roomIn (length ws))) (ap length (tiles-agree (width ws) (height ws) p q f));
+  leaves = R .leaves ∙ ap (λ (z : List ℕ). cond r z ws) (like-agree ws f);
+}
 
 -- a table shows its own picture
 itself : {ws : List ℕ} → IsTable (roomIn (length ws)) ws → Remade ws (pictureOf ws) true ws
-unfolding table
-itself {ws} T =
-    let n = ap count (T .same) ∙ written-count (roomIn (length ws)) (width ws) (height ws) (kinds ws) (tiles (width ws) (height ws) (pictureOf ws)) in
-    record { fits = sym (le-leb (length (tiles (width ws) (height ws) (pictureOf ws))) (roomIn (length ws)) (omega (arith, n, T .room))); leaves = T .same }
+itself {ws} T = record { fits = sym (le-leb (length (tiles (width ws) (height ws) (pictureOf ws))) (roomIn (length ws)) (omega (arith, count-tiles T, T .room))); leaves = T .same }
 
 -- ---- what the steps are handed
-module _ {l : Layout} {work rules : List ℕ} {used bx by : ℕ} (P : PieceIn l work rules used bx by) where
-  pub piece-words : 13 ≤ length (l .material)
-  piece-words = layout-words (P .fit .lengths .tables)
+module _ {ms es work rules : List ℕ} {used bx by : ℕ} (P : MarkIn ms es work rules used bx by) where
+  pub piece-words : 13 ≤ length ms
+  piece-words = omega (arith, P .sized .words, P .sized .least)
 
   pub piece-listed : 8 * used ≤ length rules
-  piece-listed = omega (arith, P .fit .lengths .list .room)
+  piece-listed = omega (arith, P .list .room)
 
-  pub piece-checkable : {k : ℕ} → k ≡ haloOf rules used → Checkable (l .material) rules used k bx by
+  pub piece-checkable : {k : ℕ} → k ≡ haloOf rules used → Checkable ms rules used k bx by
   piece-checkable e = record {
-    plane = table-plane (room l) (l .material) (P .fit .tables .material);
-    listed = P .fit .lengths .list;
-    sound = P .fit .sound;
+    plane = table-plane (roomIn (length ms)) ms (P .table);
+    listed = P .list;
+    sound = P .sound;
     halo = e;
     column = P .column;
     row = P .row;
   }
 
-  pub piece-block : BlockIn (width (l .material)) (height (l .material)) bx by
+  pub piece-block : BlockIn (width ms) (height ms) bx by
   piece-block = block-in (piece-checkable refl)
 
   pub piece-halo : {k : ℕ} → k ≡ haloOf rules used → k ≤ 16
   piece-halo e = halo-in (piece-checkable e)
 
-  pub errors-plane : Plane (l .errors)
-  errors-plane = table-plane (roomIn (length (l .errors))) (l .errors) (P .fit .tables .errors .table)
+  pub errors-plane : Plane es
+  errors-plane = table-plane (roomIn (length es)) es (P .marks .table)
 
-  pub errors-area : {a : Area} (k : ℕ) → a ≡ nearArea (width (l .material)) (height (l .material)) k bx by → AreaIn (width (l .errors)) (height (l .errors)) a
-  errors-area k f = marks-area (P .fit .tables .errors) (subst (λ (b : Area). AreaIn (width (l .material)) (height (l .material)) b) (sym f) (near-in k piece-block))
+  pub errors-area : {a : Area} (k : ℕ) → a ≡ nearArea (width ms) (height ms) k bx by → AreaIn (width es) (height es) a
+  errors-area k f = marks-area (P .marks) (subst (λ (b : Area). AreaIn (width ms) (height ms) b) (sym f) (near-in k piece-block))
 
-  pub errors-paintable : {c : ℕ} {a : Area} (k : ℕ) → c ≡ room l → a ≡ nearArea (width (l .material)) (height (l .material)) k bx by → Paintable c (l .errors) a
+  pub errors-paintable : {c : ℕ} {a : Area} (k : ℕ) → c ≡ roomIn (length ms) → a ≡ nearArea (width ms) (height ms) k bx by → Paintable c es a
   errors-paintable k e f = record {
-    table = table-at (ap roomIn (P .fit .lengths .tables .errors) ∙ sym e) (P .fit .tables .errors .table);
-    small = omega (arith, P .fit .lengths .tables .material .most);
+    table = table-at (ap roomIn (P .long) ∙ sym e) (P .marks .table);
+    small = omega (arith, P .sized .most);
     area = errors-area k f;
   }
 
-  pub errors-small : {k : ℕ} {a : Area} → k ≡ haloOf rules used → a ≡ nearArea (width (l .material)) (height (l .material)) k bx by → Small a
+  pub errors-small : {k : ℕ} {a : Area} → k ≡ haloOf rules used → a ≡ nearArea (width ms) (height ms) k bx by → Small a
   errors-small {k} e f =
       let s = piece-halo e in
-      subst (λ (b : Area). Small b) (sym f) (record { columns = near-small (width (l .material)) k bx s; rows = near-small (height (l .material)) k by s })
+      subst (λ (b : Area). Small b) (sym f) (record { columns = near-small (width ms) k bx s; rows = near-small (height ms) k by s })
 
   -- ---- what they make
-  module _ {k : ℕ} {a : Area} {rows : List ℕ} (e : k ≡ haloOf rules used) (f : a ≡ nearArea (width (l .material)) (height (l .material)) k bx by)
-      (R : PieceRows (width (l .material)) (height (l .material)) (pictureOf (l .material)) (rulesOf rules used) k bx by rows) where
+  module _ {k : ℕ} {a : Area} {rows : List ℕ} (e : k ≡ haloOf rules used) (f : a ≡ nearArea (width ms) (height ms) k bx by)
+      (R : PieceRows (width ms) (height ms) (pictureOf ms) (rulesOf rules used) k bx by rows) where
     -- the piece's errors, for k as for the halo
-    for-halo : remarked (width (l .material)) (height (l .material)) (pictureOf (l .material)) (rulesOf rules used) k bx by (pictureOf (l .errors)) ≡ pieceErrors l (rulesOf rules used) (haloOf rules used) bx by
-    for-halo = ap {B = Picture} (λ (n : ℕ). pieceErrors l (rulesOf rules used) n bx by) e
+    for-halo : remarked (width ms) (height ms) (pictureOf ms) (rulesOf rules used) k bx by (pictureOf es) ≡ errorsNear ms es rules used bx by
+    for-halo = ap {B = Picture} (λ (n : ℕ). remarked (width ms) (height ms) (pictureOf ms) (rulesOf rules used) n bx by (pictureOf es)) e
 
     -- the area with the rows stamped is the piece's
-    pub as-errors : {r : Bool} {vs : List ℕ} → Remade (l .errors) (stamped (pictureOf (l .errors)) a rows) r vs → Remade (l .errors) (pieceErrors l (rulesOf rules used) (haloOf rules used) bx by) r vs
+    pub as-errors : {r : Bool} {vs : List ℕ} → Remade es (stamped (pictureOf es) a rows) r vs → Remade es (errorsNear ms es rules used bx by) r vs
     as-errors {r} {vs} W =
-        let M = P .fit .tables .errors in
-        subst (λ (q : Picture). Remade (l .errors) q r vs) for-halo
-        (agree-to (λ x y u v. ap (λ (b : Area). stamped (pictureOf (l .errors)) b rows x y) f ∙ stamped-piece (pictureOf (l .errors)) R x y (omega (arith, M .wide)) (omega (arith, M .tall))) W)
+        let M = P .marks in
+        subst (λ (q : Picture). Remade es q r vs) for-halo
+        (agree-to (λ x y u v. ap (λ (b : Area). stamped (pictureOf es) b rows x y) f ∙ stamped-piece (pictureOf es) R x y (omega (arith, M .wide)) (omega (arith, M .tall))) W)
 
     -- where no error is recorded near a piece without a mark, the errors stay
-    pub errors-stay : NothingMarked (l .errors) a rows → Remade (l .errors) (pieceErrors l (rulesOf rules used) (haloOf rules used) bx by) true (l .errors)
+    pub errors-stay : NothingMarked es a rows → Remade es (errorsNear ms es rules used bx by) true es
     errors-stay N =
-        let M = P .fit .tables .errors in
-        subst (λ (q : Picture). Remade (l .errors) q true (l .errors)) for-halo
+        let M = P .marks in
+        subst (λ (q : Picture). Remade es q true es) for-halo
         (agree-to (λ x y u v. sym (clear-same a (M .table) (M .two) (N .clear) x y u v)
-        ∙ (ap (λ (b : Area). painted (pictureOf (l .errors)) b 0 x y) f ∙ unmarked-piece (pictureOf (l .errors)) R (N .none) x y (omega (arith, M .wide)) (omega (arith, M .tall))))
+        ∙ (ap (λ (b : Area). painted (pictureOf es) b 0 x y) f ∙ unmarked-piece (pictureOf es) R (N .none) x y (omega (arith, M .wide)) (omega (arith, M .tall))))
         (itself (M .table)))

@@ -21,10 +21,10 @@ use Rattle.paint.proofs.Whole.{like-table, painted-types, table-size, table-wor
 use Rattle.rules.specs.declared.rule.Rule.{Rule}
 use Rattle.rules.specs.Forbid.{forbidden}
 use Rattle.rules.specs.Words.{haloOf, rulesOf}
-use Rattle.piece.specs.Remark.{nearArea, nearBlock, remarked}
+use Rattle.piece.specs.Remark.{BlockIn, nearArea, nearBlock, remarked}
 use Rattle.piece.proofs.Remarks.{near-in}
 use Rattle.checker.specs.Check.{checkedPiece, pieceErrors, pieceFits, pieceWaiting}
-use Rattle.checker.specs.CheckSteps.{PieceIn, PieceTried, Remade}
+use Rattle.checker.specs.CheckSteps.{MarkIn, PieceIn, PieceTried, Remade}
 use Rattle.checker.specs.Layout.{Layout, Marks, lent, room}
 use Rattle.checker.specs.Ready.{Fit}
 use Rattle.checker.proofs.MarkErrors.{piece-block}
@@ -61,13 +61,30 @@ abbrev waitingTiles : Layout → ℕ → ℕ → ℕ
 waitingTiles l bx by = length (tiles (width (l .waiting)) (height (l .waiting)) (pieceWaiting l bx by))
 
 -- ---- what the steps are handed
+-- an area of the window can be cleared in waiting
+pub waiting-area : {l : Layout} {rules : List ℕ} {used c : ℕ} {a : Area} → Fit l rules used → c ≡ room l → AreaIn (width (l .material)) (height (l .material)) a → Paintable c (l .waiting) a
+waiting-area F e A = record { table = table-at (ap roomIn (F .lengths .tables .waiting) ∙ sym e) (F .tables .waiting .table); small = omega (arith, F .lengths .tables .material .most); area = marks-area (F .tables .waiting) A }
+
 module _ {l : Layout} {work rules : List ℕ} {used bx by : ℕ} (P : PieceIn l work rules used bx by) where
-  pub waiting-paintable : {c : ℕ} {a : Area} → c ≡ room l → a ≡ nearArea (width (l .material)) (height (l .material)) 0 bx by → Paintable c (l .waiting) a
-  waiting-paintable e f = record {
-    table = table-at (ap roomIn (P .fit .lengths .tables .waiting) ∙ sym e) (P .fit .tables .waiting .table);
-    small = omega (arith, P .fit .lengths .tables .material .most);
-    area = marks-area (P .fit .tables .waiting) (subst (λ (b : Area). AreaIn (width (l .material)) (height (l .material)) b) (sym f) (near-in 0 (piece-block P)));
+  -- the steps that mark its errors, with any working room as long
+  pub piece-marks : {vs : List ℕ} → length vs ≡ length (l .material) → MarkIn (l .material) (l .errors) vs rules used bx by
+  piece-marks e = record {
+    sized = P .fit .lengths .tables .material;
+    long = P .fit .lengths .tables .errors;
+    working = e;
+    list = P .fit .lengths .list;
+    sound = P .fit .sound;
+    table = P .fit .tables .material;
+    marks = P .fit .tables .errors;
+    column = P .column;
+    row = P .row;
   }
+
+  pub in-window : BlockIn (width (l .material)) (height (l .material)) bx by
+  in-window = piece-block {work = work} (piece-marks (P .working))
+
+  pub waiting-paintable : {c : ℕ} {a : Area} → c ≡ room l → a ≡ nearArea (width (l .material)) (height (l .material)) 0 bx by → Paintable c (l .waiting) a
+  waiting-paintable e f = waiting-area (P .fit) e (subst (λ (b : Area). AreaIn (width (l .material)) (height (l .material)) b) (sym f) (near-in 0 in-window))
 
   pub waiting-kinds : kinds (l .waiting) ≡ 2
   waiting-kinds = P .fit .tables .waiting .two
@@ -120,7 +137,7 @@ module _ {l : Layout} {work rules : List ℕ} {used bx by : ℕ} (P : PieceIn l 
       waiting-fits = W .fits ∙ ap (λ (n : ℕ). leb (waitingTiles l bx by) (roomIn n)) (P .fit .lengths .tables .waiting)
 
       -- the errors have room: it is for waiting to say; without room there the errors must have stayed
-      piece-tried : b ≡ true → (r ≡ false → es ≡ l .errors) → PieceTried l rules used bx by r (lent (l .material) es qs)
+      pub piece-tried : b ≡ true → (r ≡ false → es ≡ l .errors) → PieceTried l rules used bx by r (lent (l .material) es qs)
       unfolding pieceFits
       piece-tried t stay = record {
         fits = waiting-fits ∙ ap (λ (z : Bool). z && leb (waitingTiles l bx by) (room l)) (sym t ∙ errors-fit);
@@ -139,11 +156,6 @@ module _ {l : Layout} {work rules : List ℕ} {used bx by : ℕ} (P : PieceIn l 
       -- they were marked, and the tiles of waiting were counted first
       pub piece-checked : {c d : ℕ} → c ≡ room l → not b ≡ false → TilesAfter c (l .waiting) (pieceWaiting l bx by) d → d ≤ c → PieceTried l rules used bx by r (lent (l .material) es qs)
       piece-checked e n T u = piece-tried (not-false b n) (λ f. tf (sym (waiting-fits ∙ le-leb (waitingTiles l bx by) (room l) (omega (arith, T .number u))) ∙ f))
-
-  -- a quiet piece: the errors stay
-  pub piece-quiet : {r : Bool} {qs : List ℕ} → Remade (l .errors) (pieceErrors l (rulesOf rules used) (haloOf rules used) bx by) true (l .errors)
-      → Remade (l .waiting) (pieceWaiting l bx by) r qs → PieceTried l rules used bx by r (lent (l .material) (l .errors) qs)
-  piece-quiet E W = piece-tried E W refl (λ f. refl)
 
   -- ---- afterwards
   -- the types of what a piece makes

@@ -20,7 +20,7 @@ use Rattle.checker.specs.CheckSteps.{PieceIn}
 use Rattle.checker.specs.Layout.{Layout}
 use Rattle.checker.specs.Ready.{Fit}
 use Rattle.checker.proofs.OnePiece.{checked-fit, waiting-show}
-use Rattle.checker.proofs.Turns.{turn-piece}
+use Rattle.checker.proofs.Turns.{lowest-piece}
 
 -- ---- what a piece keeps, a run keeps
 -- the lowest waiting piece of a fit layout, with room for it
@@ -36,7 +36,7 @@ Keeps rules used Q = (d : ℕ) (l : Layout) (bx by : ℕ) → Doable l rules use
 module _ {l : Layout} {rules : List ℕ} {used bx by : ℕ} (D : Doable l rules used bx by) where
   -- as the code is handed it, with any working room of the right length
   pub piece-in : PieceIn l (l .material) rules used bx by
-  piece-in = turn-piece {work = l .material} (record { fit = D .fit; working = refl }) (D .lowest) refl
+  piece-in = lowest-piece (D .fit) (D .lowest) refl
 
   -- the layout is fit again
   pub piece-fit : Fit (checkedPiece l (rulesOf rules used) (haloOf rules used) bx by) rules used

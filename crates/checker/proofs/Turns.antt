@@ -1,22 +1,21 @@
--- Turns and runs: a turn is the first step of every run, and the turns done so far are the beginning of the whole run.
-use Prim.Native.Nat.{ℕ, suc, _+_, _-_, _<_}
+-- Turns and runs: the lowest waiting piece is the first step of every run, and the pieces done so far are the beginning of the whole run.
+use Prim.Native.Nat.{ℕ, suc, _+_, _-_, _≤_, _<_}
 use native.Mathlib.Omega.{arith}
 use mathlib.Core.Bool.{Bool, true, false, cond}
 use mathlib.Core.Path.{_≡_, refl, sym, _∙_, ap, subst}
 use mathlib.Core.List.{List}
 use Rattle.plane.specs.Plane.{Plane}
 use Rattle.plane.specs.Words.{height, pictureOf, roomIn, width}
+use Rattle.plane.proofs.Basics.{tf}
 use Rattle.plane.proofs.FromTable.{table-plane}
 use Rattle.rules.specs.Words.{haloOf, rulesOf}
 use Rattle.piece.specs.declared.waits.Block.{Block}
 use Rattle.piece.specs.declared.waits.Block.the-variants.{At, Nothing}
-use Rattle.piece.specs.Pieces.{LowestOf, waitingPieces}
+use Rattle.piece.specs.Pieces.{waitingPieces}
 use Rattle.piece.proofs.Blocks.{lowest-block}
 use Rattle.checker.specs.declared.check.Ran.{Ran}
-use Rattle.checker.specs.declared.check.Turn.{Turn}
-use Rattle.checker.specs.declared.check.Turn.the-variants as turned
-use Rattle.checker.specs.Check.{CheckLeft, Run, afterBlock, checkRun, checkedPiece, fitsBlock, lowestOf, oneMore, pieceFits, ranCheck, stopped, turn}
-use Rattle.checker.specs.CheckSteps.{PieceIn, PieceTried, RanPieces, RanTo, Runs, Turned, thenRun}
+use Rattle.checker.specs.Check.{CheckLeft, Run, afterBlock, checkRun, checkedPiece, fitsBlock, lowestOf, pieceFits, ranCheck, turn}
+use Rattle.checker.specs.CheckSteps.{Came, OverAt, PieceIn, PieceTried, RanPieces, RanTo, Turned, more}
 use Rattle.checker.specs.Layout.{Layout}
 use Rattle.checker.specs.Ready.{Fit}
 use Rattle.checker.proofs.OnePiece.{checked-fit}
@@ -26,61 +25,7 @@ use lib.ListN.{length}
 pub waiting-plane : {l : Layout} {rules : List ℕ} {used : ℕ} → Fit l rules used → Plane (l .waiting)
 waiting-plane {l} F = table-plane (roomIn (length (l .waiting))) (l .waiting) (F .tables .waiting .table)
 
--- ---- a turn
-module _ {l : Layout} {work rules : List ℕ} {used : ℕ} (R : Runs l work rules used) {b : Block} (e : b ≡ lowestOf l) where
-  -- the first step of a run, by what is the lowest block
-  first-step : (n : ℕ) (d : Block) → b ≡ d
-      → checkRun (suc n) (rulesOf rules used) (haloOf rules used) l
-      ≡ turn d (fitsBlock l (rulesOf rules used) (haloOf rules used) d) l (checkRun n (rulesOf rules used) (haloOf rules used) (afterBlock l (rulesOf rules used) (haloOf rules used) d))
-  unfolding checkRun
-  first-step n d f =
-      ap (λ (z : Block). turn z (fitsBlock l (rulesOf rules used) (haloOf rules used) z) l (checkRun n (rulesOf rules used) (haloOf rules used) (afterBlock l (rulesOf rules used) (haloOf rules used) z)))
-      (sym e ∙ f)
-
-  pub turn-idle : b ≡ Nothing → Turned l rules used turned.Idle l
-  turn-idle f = record { run = λ n. first-step n Nothing f; fit = R .fit }
-
-  module _ {bx by : ℕ} (f : b ≡ At bx by) where
-    -- the lowest waiting block is one of the window
-    pub turn-piece : PieceIn l work rules used bx by
-    turn-piece =
-        let L = subst (λ (z : Block). LowestOf (width (l .waiting)) (height (l .waiting)) (pictureOf (l .waiting)) z) f (lowest-block (width (l .waiting)) (height (l .waiting)) (pictureOf (l .waiting)) b e) in
-        let M = R .fit .tables .waiting in
-        record { fit = R .fit; working = R .working; column = omega (arith, L .column, M .wide); row = omega (arith, L .row, M .tall) }
-
-    module _ {r : Bool} {after : Layout} (T : PieceTried l rules used bx by r after) where
-      pub turn-done : r ≡ true → Turned l rules used turned.Done after
-      turn-done t =
-          let g : pieceFits l (rulesOf rules used) (haloOf rules used) bx by ≡ true = sym (T .fits) ∙ t in
-          let a : after ≡ checkedPiece l (rulesOf rules used) (haloOf rules used) bx by = T .leaves ∙ ap (λ (z : Bool). cond z (checkedPiece l (rulesOf rules used) (haloOf rules used) bx by) l) t in
-          record {
-            run = λ n. first-step n (At bx by) f
-                ∙ (ap (λ (z : Bool). turn (At bx by) z l (checkRun n (rulesOf rules used) (haloOf rules used) (checkedPiece l (rulesOf rules used) (haloOf rules used) bx by))) g
-                ∙ ap (λ (z : Layout). oneMore (checkRun n (rulesOf rules used) (haloOf rules used) z)) (sym a));
-            fit = subst (λ (z : Layout). Fit z rules used) (sym a) (checked-fit turn-piece g);
-          }
-
-      pub turn-full : r ≡ false → Turned l rules used turned.Full after
-      turn-full t =
-          let g : pieceFits l (rulesOf rules used) (haloOf rules used) bx by ≡ false = sym (T .fits) ∙ t in
-          let a : after ≡ l = T .leaves ∙ ap (λ (z : Bool). cond z (checkedPiece l (rulesOf rules used) (haloOf rules used) bx by) l) t in
-          record {
-            run = λ n. first-step n (At bx by) f
-                ∙ (ap (λ (z : Bool). turn (At bx by) z l (checkRun n (rulesOf rules used) (haloOf rules used) (checkedPiece l (rulesOf rules used) (haloOf rules used) bx by))) g
-                ∙ ap (λ (z : Layout). stopped 7 z) (sym a));
-            fit = subst (λ (z : Layout). Fit z rules used) (sym a) (R .fit);
-          }
-
--- ---- the turns so far
--- d pieces, and then a run
-abbrev more : ℕ → Run → Run
-more d r = record { number = r .number; done = d + r .done; layout = r .layout }
-
--- every run from l that is long enough begins with d pieces that lead to `here`, and goes on from there
-pub record Came (l here : Layout) (rules : List ℕ) (used d : ℕ) : Type 0 where
-  pub run : (m : ℕ) → checkRun (d + m) (rulesOf rules used) (haloOf rules used) l ≡ more d (checkRun m (rulesOf rules used) (haloOf rules used) here)
-  pub fit : Fit here rules used
-
+-- ---- no piece
 pub came-none : {l : Layout} {rules : List ℕ} {used : ℕ} → Fit l rules used → Came l l rules used 0
 came-none {l} {rules} {used} F = record {
   run = λ m. let r = checkRun m (rulesOf rules used) (haloOf rules used) l in
@@ -89,35 +34,102 @@ came-none {l} {rules} {used} F = record {
   fit = F;
 }
 
-module _ {l here after : Layout} {rules : List ℕ} {used d : ℕ} {t : Turn} (C : Came l here rules used d) (T : Turned here rules used t after) where
-  -- the run of more than d pieces, by the next turn
-  came-then : (m : ℕ) → checkRun (d + suc m) (rulesOf rules used) (haloOf rules used) l ≡ more d (thenRun t after (checkRun m (rulesOf rules used) (haloOf rules used) after))
-  came-then m = C .run (suc m) ∙ ap more-d (T .run m)
-    where
-      more-d : Run → Run
-      more-d r = more d r
+-- ---- one piece
+module _ {l : Layout} {rules : List ℕ} {used : ℕ} (F : Fit l rules used) where
+  -- the first step of a run, by what is the lowest block
+  first-step : (m : ℕ) (b : Block) → b ≡ lowestOf l → checkRun (suc m) (rulesOf rules used) (haloOf rules used) l ≡ turn b (fitsBlock l (rulesOf rules used) (haloOf rules used) b) l (checkRun m (rulesOf rules used) (haloOf rules used) (afterBlock l (rulesOf rules used) (haloOf rules used) b))
+  unfolding checkRun
+  first-step m b e = ap (λ (z : Block). turn z (fitsBlock l (rulesOf rules used) (haloOf rules used) z) l (checkRun m (rulesOf rules used) (haloOf rules used) (afterBlock l (rulesOf rules used) (haloOf rules used) z))) (sym e)
 
-  pub came-more : t ≡ turned.Done → Came l after rules used (d + 1)
-  came-more e = record {
-    run = λ m. let r = checkRun m (rulesOf rules used) (haloOf rules used) after in
-        let f : d + suc (r .done) ≡ d + 1 + r .done = omega arith in
-        ap (λ (z : ℕ). checkRun z (rulesOf rules used) (haloOf rules used) l) (omega arith)
-        ∙ (came-then m ∙ (ap (λ (z : Turn). more d (thenRun z after r)) e ∙ (λ i. record { number = r .number; done = f i; layout = r .layout })));
-    fit = T .fit;
-  }
+  -- none waits
+  pub idle-over : Nothing ≡ lowestOf l → OverAt 0 l rules used
+  idle-over e m = first-step m Nothing e
 
-  came-over : {n x : ℕ} → d < n → ((r : Run) → thenRun t after r ≡ stopped x after) → checkRun n (rulesOf rules used) (haloOf rules used) l ≡ record { number = x; done = d; layout = after }
-  came-over {n} {x} u f =
+  module _ {bx by : ℕ} (e : At bx by ≡ lowestOf l) where
+    -- the lowest waiting block is one of the window
+    pub lowest-piece : {work : List ℕ} → length work ≡ length (l .material) → PieceIn l work rules used bx by
+    lowest-piece s =
+        let L = lowest-block (width (l .waiting)) (height (l .waiting)) (pictureOf (l .waiting)) (At bx by) e in
+        let M = F .tables .waiting in
+        record { fit = F; working = s; column = omega (arith, L .column, M .wide); row = omega (arith, L .row, M .tall) }
+
+    -- the step that it is
+    piece-step : (m : ℕ) (r : Bool) → r ≡ pieceFits l (rulesOf rules used) (haloOf rules used) bx by → checkRun (suc m) (rulesOf rules used) (haloOf rules used) l ≡ turn (At bx by) r l (checkRun m (rulesOf rules used) (haloOf rules used) (checkedPiece l (rulesOf rules used) (haloOf rules used) bx by))
+    piece-step m r f = first-step m (At bx by) e ∙ ap (λ (z : Bool). turn (At bx by) z l (checkRun m (rulesOf rules used) (haloOf rules used) (checkedPiece l (rulesOf rules used) (haloOf rules used) bx by))) (sym f)
+
+    module _ {n : ℕ} {r : Bool} {after : Layout} (some : 1 ≤ n) (T : PieceTried l rules used bx by r after) where
+      -- what it leaves
+      leaves-by : {d : Bool} → r ≡ d → after ≡ cond d (checkedPiece l (rulesOf rules used) (haloOf rules used) bx by) l
+      leaves-by t = T .leaves ∙ ap (λ (z : Bool). cond z (checkedPiece l (rulesOf rules used) (haloOf rules used) bx by) l) t
+
+      pub turn-done : r ≡ true → Turned l rules used n 1 false after
+      turn-done t = record {
+        came = record {
+          run = λ m. let q = checkRun m (rulesOf rules used) (haloOf rules used) (checkedPiece l (rulesOf rules used) (haloOf rules used) bx by) in
+              let g : suc (q .done) ≡ 1 + q .done = omega arith in
+              ap (λ (z : ℕ). checkRun z (rulesOf rules used) (haloOf rules used) l) (omega arith)
+              ∙ (piece-step m true (sym t ∙ T .fits)
+              ∙ ((λ i. record { number = q .number; done = g i; layout = q .layout }) ∙ ap (λ (z : Layout). more 1 (checkRun m (rulesOf rules used) (haloOf rules used) z)) (sym (leaves-by t))));
+          fit = subst (λ (z : Layout). Fit z rules used) (sym (leaves-by t)) (checked-fit (lowest-piece {work = l .material} refl) (sym (T .fits) ∙ t));
+        };
+        most = some;
+        some = λ f. omega arith;
+        stuck = λ f. tf (sym f);
+      }
+
+      pub turn-full : r ≡ false → Turned l rules used n 0 true after
+      turn-full t = subst (λ (z : Layout). Turned l rules used n 0 true z) (sym (leaves-by t)) (record {
+        came = came-none F;
+        most = omega arith;
+        some = λ f. tf f;
+        stuck = λ f. (some, λ m. piece-step m false (sym t ∙ T .fits));
+      })
+
+-- ---- the turns so far
+-- pieces, and then pieces
+pub came-join : {l here after : Layout} {rules : List ℕ} {used d e : ℕ} → Came l here rules used d → Came here after rules used e → Came l after rules used (d + e)
+came-join {l} {here} {after} {rules} {used} {d} {e} C D = record {
+  run = λ m. let q = checkRun m (rulesOf rules used) (haloOf rules used) after in
+      let g : d + (e + q .done) ≡ d + e + q .done = omega arith in
+      ap (λ (z : ℕ). checkRun z (rulesOf rules used) (haloOf rules used) l) (omega arith) ∙ (C .run (e + m) ∙ (ap (λ (z : Run). more d z) (D .run m) ∙ (λ i. record { number = q .number; done = g i; layout = q .layout })));
+  fit = D .fit;
+}
+
+-- no piece: it is the same layout
+pub came-nowhere : {l here : Layout} {rules : List ℕ} {used d : ℕ} → Came l here rules used d → d ≡ 0 → here ≡ l
+unfolding checkRun
+came-nowhere {l} {here} {rules} {used} {d} C e =
+    let g : d + 0 ≡ 0 = omega arith in
+    sym (ap (λ (z : ℕ). checkRun z (rulesOf rules used) (haloOf rules used) l .layout) (sym g) ∙ ap (λ (z : Run). z .layout) (C .run 0))
+
+-- pieces, and then a turn
+pub turned-join : {l here after : Layout} {rules : List ℕ} {used d e m n : ℕ} {full : Bool} → Came l here rules used d → d + m ≤ n → Turned here rules used m e full after → Turned l rules used n (d + e) full after
+turned-join C u T = record {
+  came = came-join C (T .came);
+  most = omega (arith, T .most);
+  some = λ f. omega (arith, T .some f);
+  stuck = λ f. (omega (arith, T .stuck f .0), T .stuck f .1);
+}
+
+-- pieces, some of them, and no more
+pub turned-so-far : {l here : Layout} {rules : List ℕ} {used d n : ℕ} {full : Bool} → Came l here rules used d → d ≤ n → 1 ≤ d → full ≡ false → Turned l rules used n d full here
+turned-so-far C u s z = record { came = C; most = u; some = λ f. s; stuck = λ f. tf (sym f ∙ z) }
+
+-- ---- the end of a run
+module _ {l here : Layout} {rules : List ℕ} {used d n : ℕ} (C : Came l here rules used d) where
+  ends : {x : ℕ} → d < n → OverAt x here rules used → checkRun n (rulesOf rules used) (haloOf rules used) l ≡ record { number = x; done = d; layout = here }
+  ends {x} u f =
       let m = n - d - 1 in
       let g : d + 0 ≡ d = omega arith in
-      ap (λ (z : ℕ). checkRun z (rulesOf rules used) (haloOf rules used) l) (omega arith)
-      ∙ (came-then m ∙ (ap (λ (z : Run). more d z) (f (checkRun m (rulesOf rules used) (haloOf rules used) after)) ∙ (λ i. record { number = x; done = g i; layout = after })))
+      ap (λ (z : ℕ). checkRun z (rulesOf rules used) (haloOf rules used) l) (omega arith) ∙ (C .run (suc m) ∙ (ap (λ (z : Run). more d z) (f m) ∙ (λ i. record { number = x; done = g i; layout = here })))
 
-  pub ran-full : {n : ℕ} → d < n → t ≡ turned.Full → RanTo l rules used n (record { done = d; full = true }) after
-  ran-full u e = record { run = came-over u (λ r. ap (λ (z : Turn). thenRun z after r) e); fit = T .fit }
+  -- at a piece without room
+  pub ran-full : d < n → OverAt 7 here rules used → RanTo l rules used n (record { done = d; full = true }) here
+  ran-full u f = record { run = ends u f; fit = C .fit }
 
-  pub ran-idle : {n : ℕ} → d < n → t ≡ turned.Idle → RanTo l rules used n (record { done = d; full = false }) after
-  ran-idle u e = record { run = came-over u (λ r. ap (λ (z : Turn). thenRun z after r) e); fit = T .fit }
+  -- where none waits
+  pub ran-idle : d < n → OverAt 0 here rules used → RanTo l rules used n (record { done = d; full = false }) here
+  ran-idle u f = record { run = ends u f; fit = C .fit }
 
 -- all turns are done
 pub ran-all : {l here : Layout} {rules : List ℕ} {used d n : ℕ} → Came l here rules used d → d ≡ n → RanTo l rules used n (record { done = d; full = false }) here

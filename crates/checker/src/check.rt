@@ -12,28 +12,33 @@ use piece::rows::no_marks;
 use piece::rows::piece_rows;
 use piece::waits::Block;
 use piece::waits::lowest_waiting;
+use piece::waits::next_waiting;
+use piece::waits::row_of;
 use piece::waits::waiting_pieces;
 use plane::area::count_squares;
 use plane::tile::Area;
 use plane::words::room_in;
+use plane::words::wide;
 use rules::list::halo_of;
 ghost use mathlib.Core.Bool.{true};
 ghost use mathlib.Core.Path.{_≡_};
+ghost use Prim.Native.Nat.{_+_, _-_, _≤_};
 ghost use lib.ListN.{length};
 ghost use Rattle.plane.specs.Area.{AreaIn};
 ghost use Rattle.plane.specs.Picture.{painted, stamped};
 ghost use Rattle.plane.specs.Plane.{Plane};
-ghost use Rattle.plane.specs.Words.{width, height, kinds, pictureOf};
+ghost use Rattle.plane.specs.Words.{width, height, kinds, count, pictureOf, roomIn};
 ghost use Rattle.strips.specs.Brush.{Small};
 ghost use Rattle.paint.specs.Tables.{Paintable};
 ghost use Rattle.rules.specs.Words.{rulesOf};
-ghost use Rattle.piece.specs.Remark.{Checkable};
+ghost use Rattle.piece.specs.Remark.{BlockIn, Checkable};
 ghost use Rattle.piece.specs.Rows.{PieceRows};
+ghost use Rattle.piece.specs.Sweep.{sweptArea};
 ghost use Rattle.checker.specs.Answers.{readyNumber, readyPlace};
 ghost use Rattle.checker.specs.Layout.{lent};
 ghost use Rattle.checker.specs.Check.{Checked};
 ghost use Rattle.checker.specs.Answers.{checkNumber, checkPlace, checkDone, checkLeft};
-ghost use Rattle.checker.specs.CheckSteps.{Runs, NothingMarked, Remade, PieceIn, PieceTried, Turned, RanTo, RanPieces, CheckTested, CheckedBut};
+ghost use Rattle.checker.specs.CheckSteps.{Runs, NothingMarked, Remade, MarkIn, errorsNear, PieceIn, PieceTried, TurnIn, Turned, RowMarked, RanTo, RanPieces, CheckTested, CheckedBut};
 
 // The answer of check: the pieces done and left, also where a piece found no room (Full); or what the tests refuse.
 pub enum CheckAnswer {
@@ -44,16 +49,16 @@ pub enum CheckAnswer {
     NoTable,
 }
 
-// What a turn came to: a piece done, a piece without room, or none that waits.
-pub enum Turn {
-    Done,
-    Full,
-    Idle,
-}
-
-// What a run came to: the pieces done, and whether it met a piece without room.
+// What a run or a turn of it came to: the pieces done, and whether it met a piece without room.
 pub struct Ran {
     pub done: usize,
+    pub full: bool,
+}
+
+// What a row came to: the same, and the column before which all is done in it.
+pub struct Swept {
+    pub done: usize,
+    pub end: u16,
     pub full: bool,
 }
 
@@ -113,8 +118,31 @@ fn end_waiting(waiting: &mut [u16], block: Area, work: &mut [u16], room: usize) 
     true
 }
 
-// Checks the piece at column bx, row by; false, with errors and waiting as they were, where one of them has no room for it. A piece
-// without a mark, where no error is recorded, leaves the errors alone: then waiting need not be counted before it is made.
+// Marks the errors of the piece at column bx, row by; false, with errors as they were, where they have no room. A piece without a mark,
+// where no error is recorded, leaves them alone.
+fn remark(
+    material: &[u16],
+    errors: &mut [u16],
+    work: &mut [u16],
+    rules: &[u16],
+    used: usize,
+    bx: u16,
+    by: u16,
+) -> bool
+    requires { ⌜ MarkIn (now material) (now errors) (now work) (now rules) used bx by ⌝ }
+    ensures { λ r. ⌜ Remade (now (errors .entry)) (errorsNear (now (material .entry)) (now (errors .entry)) (now (rules .entry)) used bx by) r (now (errors .exit)) ⌝ }
+{
+    let k = halo_of(rules, used);
+    let near = near_area(material[1], material[2], bx, by, k);
+    let rows = near_marks(material, rules, used, bx, by, k);
+    if nothing_marked(errors, near, rows) {
+        return true;
+    }
+    mark_errors(errors, near, rows, work, room_in(material.len()))
+}
+
+// Checks the piece at column bx, row by; false, with errors and waiting as they were, where one of them has no room for it. What waits
+// is counted before the errors are marked.
 pub fn check_piece(
     material: &[u16],
     errors: &mut [u16],
@@ -130,45 +158,129 @@ pub fn check_piece(
 {
     let room = room_in(material.len());
     let block = near_area(material[1], material[2], bx, by, 0);
-    let k = halo_of(rules, used);
-    let near = near_area(material[1], material[2], bx, by, k);
-    let rows = near_marks(material, rules, used, bx, by, k);
-    if nothing_marked(errors, near, rows) {
-        return end_waiting(waiting, block, work, room);
-    }
     let drafted = tiles_after(waiting, block, 0, work, room);
     if room < drafted {
         return false;
     }
-    if !mark_errors(errors, near, rows, work, room) {
+    if !remark(material, errors, work, rules, used, bx, by) {
         return false;
     }
     end_waiting(waiting, block, work, room)
 }
 
-// Checks the lowest waiting piece, if one waits.
-pub fn one_turn(
+// Marks the errors of the waiting pieces of row by, from column bx on, at most n, until the row ends or a piece has no room.
+fn mark_row(
+    material: &[u16],
+    errors: &mut [u16],
+    waiting: &[u16],
+    work: &mut [u16],
+    rules: &[u16],
+    used: usize,
+    bx: u16,
+    by: u16,
+    n: usize,
+) -> Swept
+    requires { ⌜ TurnIn (lent (now material) (now errors) (now waiting)) (now work) (now rules) used bx by n ⌝ }
+    requires { ⌜ count (now waiting) + 32 ≤ roomIn (length (now material)) ⌝ }
+    ensures { λ r. ⌜ RowMarked (lent (now (material .entry)) (now (errors .entry)) (now (waiting .entry))) (now (rules .entry)) used by n (r .done) (r .end) (r .full) (now (errors .exit)) ⌝ }
+{
+    let cs = row_of(waiting, wide(by));
+    let e = (material[1] + 15) / 16;
+    let mut done: usize = 0;
+    let mut end = bx;
+    let mut full = false;
+    while done < n {
+        end = next_waiting(&cs, end, e);
+        if end == e {
+            return Swept { done, end, full };
+        }
+        full = !remark(material, errors, work, rules, used, end, by);
+        if full {
+            return Swept { done, end, full };
+        }
+        done += 1;
+        end += 1;
+    }
+    Swept { done, end, full }
+}
+
+// The squares of the first e pieces of row by.
+fn row_area(w: u16, h: u16, e: u16, by: u16) -> Area
+    requires { ⌜ (1 ≤ e) × BlockIn w h (e - 1) by ⌝ }
+    ensures { λ r. ⌜ r ≡ sweptArea w h e by ⌝ }
+{
+    let last = near_area(w, h, e - 1, by, 0);
+    Area {
+        x1: 0,
+        y1: last.y1,
+        x2: last.x2,
+        y2: last.y2,
+    }
+}
+
+// Checks waiting pieces of row by, from column bx on, at most n: marks their errors, and then clears them in waiting all at once.
+fn sweep_row(
     material: &[u16],
     errors: &mut [u16],
     waiting: &mut [u16],
     work: &mut [u16],
     rules: &[u16],
     used: usize,
-) -> Turn
-    requires { ⌜ Runs (lent (now material) (now errors) (now waiting)) (now work) (now rules) used ⌝ }
-    ensures { λ r. ⌜ Turned (lent (now (material .entry)) (now (errors .entry)) (now (waiting .entry))) (now (rules .entry)) used r (lent (now (material .exit)) (now (errors .exit)) (now (waiting .exit))) ⌝ }
+    bx: u16,
+    by: u16,
+    n: usize,
+) -> Ran
+    requires { ⌜ TurnIn (lent (now material) (now errors) (now waiting)) (now work) (now rules) used bx by n ⌝ }
+    requires { ⌜ count (now waiting) + 32 ≤ roomIn (length (now material)) ⌝ }
+    ensures { λ r. ⌜ Turned (lent (now (material .entry)) (now (errors .entry)) (now (waiting .entry))) (now (rules .entry)) used n (r .done) (r .full) (lent (now (material .exit)) (now (errors .exit)) (now (waiting .exit))) ⌝ }
 {
-    let lowest = lowest_waiting(waiting);
-    let Block::At(bx, by) = lowest else {
-        return Turn::Idle;
-    };
-    if check_piece(material, errors, waiting, work, rules, used, bx, by) {
-        return Turn::Done;
+    let row = mark_row(material, errors, waiting, work, rules, used, bx, by, n);
+    if row.done == 0 {
+        return Ran {
+            done: 0,
+            full: row.full,
+        };
     }
-    Turn::Full
+    let swept = row_area(material[1], material[2], row.end, by);
+    end_waiting(waiting, swept, work, room_in(material.len()));
+    Ran {
+        done: row.done,
+        full: row.full,
+    }
 }
 
-// At most n turns, until none waits or a piece has no room.
+// Checks waiting pieces, at most n, from the lowest on, at column bx, row by: those of its row, where waiting has room for 32 tiles more,
+// which is the most that clearing a part of a row adds; else this one.
+fn one_turn(
+    material: &[u16],
+    errors: &mut [u16],
+    waiting: &mut [u16],
+    work: &mut [u16],
+    rules: &[u16],
+    used: usize,
+    bx: u16,
+    by: u16,
+    n: usize,
+) -> Ran
+    requires { ⌜ TurnIn (lent (now material) (now errors) (now waiting)) (now work) (now rules) used bx by n ⌝ }
+    ensures { λ r. ⌜ Turned (lent (now (material .entry)) (now (errors .entry)) (now (waiting .entry))) (now (rules .entry)) used n (r .done) (r .full) (lent (now (material .exit)) (now (errors .exit)) (now (waiting .exit))) ⌝ }
+{
+    if wide(waiting[0]) + 32 <= room_in(material.len()) {
+        return sweep_row(material, errors, waiting, work, rules, used, bx, by, n);
+    }
+    if check_piece(material, errors, waiting, work, rules, used, bx, by) {
+        return Ran {
+            done: 1,
+            full: false,
+        };
+    }
+    Ran {
+        done: 0,
+        full: true,
+    }
+}
+
+// At most n pieces, turn by turn, until none waits or a piece has no room.
 pub fn check_run(
     material: &[u16],
     errors: &mut [u16],
@@ -183,17 +295,24 @@ pub fn check_run(
 {
     let mut done: usize = 0;
     while done < n {
-        let found = one_turn(material, errors, waiting, work, rules, used);
-        match found {
-            Turn::Done => {
-                done += 1;
-            }
-            Turn::Full => {
-                return Ran { done, full: true };
-            }
-            Turn::Idle => {
-                return Ran { done, full: false };
-            }
+        let lowest = lowest_waiting(waiting);
+        let Block::At(bx, by) = lowest else {
+            return Ran { done, full: false };
+        };
+        let turn = one_turn(
+            material,
+            errors,
+            waiting,
+            work,
+            rules,
+            used,
+            bx,
+            by,
+            n - done,
+        );
+        done += turn.done;
+        if turn.full {
+            return Ran { done, full: true };
         }
     }
     Ran { done, full: false }

@@ -1,26 +1,26 @@
--- The lowest waiting block is a piece to check; none that waits, a piece done and a piece without room are one law each.
-use Rattle.checker.proofs.Turns.{waiting-plane, turn-idle, turn-piece, turn-done, turn-full}
+-- A row is a turn by itself; a piece done and one without room are one law each.
+use Rattle.checker.proofs.Turns.{lowest-piece, turn-done, turn-full}
 use borrow.Author.Needs.{needs}
 use Rattle.checker.proofs.check.one_turn.Statement.{statement}
 use Rattle.checker.proofs.check.one_turn.Tie as tie
 
-lowest-waiting-requires : tie.Need-lowest-waiting-requires
-lowest-waiting-requires c κs = waiting-plane (c .before .before .before .before .before .before .pre .fit)
+slice-read-wide : tie.Need-slice-read-wide
+slice-read-wide c = search needs
 
-enum-known-lowest : tie.Need-enum-known-lowest
-enum-known-lowest c = search needs
+wide-requires : tie.Need-wide-requires
+wide-requires c κs = search needs
 
-enum-told : tie.Need-enum-told
-enum-told c = search needs
+add-if1 : tie.Need-add-if1
+add-if1 c = search needs
+
+room-in-requires : tie.Need-room-in-requires
+room-in-requires c κs = search needs
+
+sweep-row-requires : tie.Need-sweep-row-requires
+sweep-row-requires c κs = search needs
 
 same-length : tie.Need-same-length
 same-length c = search needs
-
-returns : tie.Need-returns
-returns c = turn-idle (c .before .before .before .before .before .before .before .before .before .pre) (c .before .before .lowest-waiting .ensures) (c .enum-told .given .1)
-
-check-piece-requires : tie.Need-check-piece-requires
-check-piece-requires c κs = turn-piece (c .before .before .before .before .before .before .before .before .before .before .before .before .before .pre) (c .before .before .before .before .before .before .lowest-waiting .ensures) (c .before .before .before .before .lowest .given .1)
 
 same-length-2 : tie.Need-same-length-2
 same-length-2 c = search needs
@@ -28,11 +28,14 @@ same-length-2 c = search needs
 same-length-3 : tie.Need-same-length-3
 same-length-3 c = search needs
 
+returns : tie.Need-returns
+returns c = search needs
+
+check-piece-requires : tie.Need-check-piece-requires
+check-piece-requires c κs = lowest-piece (c .before .before .before .before .before .before .before .before .before .before .before .before .pre .fit) (c .before .before .before .before .before .before .before .before .before .before .before .before .pre .lowest) (c .before .before .before .before .before .before .before .before .before .before .before .before .pre .working)
+
 same-length-4 : tie.Need-same-length-4
 same-length-4 c = search needs
-
-returns-2 : tie.Need-returns-2
-returns-2 c = turn-done (c .before .before .before .before .before .before .before .before .before .before .before .before .before .before .before .before .before .before .before .before .before .pre) (c .before .before .before .before .before .before .before .before .before .before .before .before .before .before .lowest-waiting .ensures) (c .before .before .before .before .before .before .before .before .before .before .before .before .lowest .given .1) (c .before .before .before .before .before .before .before .check-piece .ensures) (c .if1 .taken)
 
 same-length-5 : tie.Need-same-length-5
 same-length-5 c = search needs
@@ -40,27 +43,40 @@ same-length-5 c = search needs
 same-length-6 : tie.Need-same-length-6
 same-length-6 c = search needs
 
+returns-2 : tie.Need-returns-2
+returns-2 c = turn-done (c .before .before .before .before .before .before .before .before .before .before .before .before .before .before .before .before .before .before .before .before .pre .fit) (c .before .before .before .before .before .before .before .before .before .before .before .before .before .before .before .before .before .before .before .before .pre .lowest) (c .before .before .before .before .before .before .before .before .before .before .before .before .before .before .before .before .before .before .before .before .pre .some) (c .before .before .before .before .before .before .before .check-piece .ensures) (c .if2 .taken)
+
 same-length-7 : tie.Need-same-length-7
 same-length-7 c = search needs
 
+same-length-8 : tie.Need-same-length-8
+same-length-8 c = search needs
+
+same-length-9 : tie.Need-same-length-9
+same-length-9 c = search needs
+
 returns-3 : tie.Need-returns-3
-returns-3 c = turn-full (c .before .before .before .before .before .before .before .before .before .before .before .before .before .before .before .before .before .before .before .before .before .pre) (c .before .before .before .before .before .before .before .before .before .before .before .before .before .before .lowest-waiting .ensures) (c .before .before .before .before .before .before .before .before .before .before .before .before .lowest .given .1) (c .before .before .before .before .before .before .before .check-piece .ensures) (c .if1 .left)
+returns-3 c = turn-full (c .before .before .before .before .before .before .before .before .before .before .before .before .before .before .before .before .before .before .before .before .pre .fit) (c .before .before .before .before .before .before .before .before .before .before .before .before .before .before .before .before .before .before .before .before .pre .lowest) (c .before .before .before .before .before .before .before .before .before .before .before .before .before .before .before .before .before .before .before .before .pre .some) (c .before .before .before .before .before .before .before .check-piece .ensures) (c .if2 .left)
 
 pub one-turn-spec : {M : Type 1} → statement M
 one-turn-spec =
     tie.close
     (tie.spec
-    lowest-waiting-requires
-    enum-known-lowest
-    enum-told
+    slice-read-wide
+    wide-requires
+    add-if1
+    room-in-requires
+    sweep-row-requires
     same-length
-    returns
-    check-piece-requires
     same-length-2
     same-length-3
+    returns
+    check-piece-requires
     same-length-4
-    returns-2
     same-length-5
     same-length-6
+    returns-2
     same-length-7
+    same-length-8
+    same-length-9
     returns-3)
