@@ -11,7 +11,7 @@ use Rattle.plane.specs.Checks.{Starts, Column, Upper, Frames, areas}
 use Rattle.plane.proofs.Basics.{lt-or-ge}
 use Rattle.plane.proofs.Counting.{no-overlap, adds-up}
 use Rattle.plane.proofs.Index.{later}
-use Rattle.plane.proofs.ToTable.{begins-there}
+use Rattle.plane.proofs.ToTable.{begins-there, begins-above}
 
 -- a tile that begins at x on row y holds (x,y)
 pub starts-holds : (ws : List ℕ) (j x y : ℕ) → Boxes ws → Starts ws j x y → Holds (tileOf ws j) x y
@@ -76,16 +76,8 @@ pub plane-upper : (ws : List ℕ) → Plane ws → (i : ℕ) → i < count ws �
 plane-upper ws P i u t f g h =
     let n = P .stitches i u .rt .0 t in
     let j = word ws i 8 in
-    let q = n .held in
     let b : Box (width ws) (height ws) (tileOf ws i) = P .boxes .box i u in
-    let e : word ws j 1 ≡ word ws i 3 = ⊎-elim
-    (λ (s : word ws j 1 < word ws i 3).
-    let k : i ≡ j = P .one i j (word ws i 2 - 1) (word ws i 3 - 1) u (n .counted)
-    (record { from-left = omega (arith, b .wide); to-right = omega (arith, b .wide); from-bottom = omega (arith, b .tall); to-top = omega (arith, b .tall) })
-    (record { from-left = q .from-left; to-right = q .to-right; from-bottom = omega arith; to-top = omega (arith, q .to-top) }) in
-    absurd (omega (arith, q .to-top, ap (λ (m : ℕ). word ws m 3) k)))
-    (λ s. omega (arith, q .from-bottom))
-    (lt-or-ge (word ws j 1) (word ws i 3)) in
+    let e = begins-above ws P i j (word ws i 2 - 1) u (n .counted) (omega (arith, b .wide)) (omega (arith, b .wide)) (n .held) in
     P .apart i j u (n .counted) (record { joins = e; left = f; right = g; kind = h })
 
 -- ---- the left border, tile by tile: `edge` is how high it is known to be covered

@@ -12,6 +12,7 @@ pub mod FromTable
 pub mod Counting
 pub mod Shares
 pub mod Checked
+pub mod Joints
 pub mod Lowests
 pub mod Vets
 pub mod Once

@@ -58,6 +58,26 @@ module _ (ws : List ℕ) (P : Plane ws) where
       (λ s. omega (arith, q .from-left))
       (lt-or-ge (word ws j 0) (word ws i 2))
 
+  -- what holds a square below a tile ends where the tile begins, and what holds one above it begins where the tile ends
+  pub ends-below : (i j x : ℕ) → i < count ws → j < count ws → 0 < word ws i 1 → word ws i 0 ≤ x → x < word ws i 2 → Holds (tileOf ws j) x (word ws i 1 - 1) → word ws j 3 ≡ word ws i 1
+  ends-below i j x u v a b d q =
+      ⊎-elim
+      (λ (s : word ws i 1 < word ws j 3).
+      let e : i ≡ j = P .one i j x (word ws i 1) u v (record { from-left = b; to-right = d; from-bottom = omega arith; to-top = P .boxes .box i u .tall }) (record { from-left = q .from-left; to-right = q .to-right; from-bottom = omega (arith, q .from-bottom); to-top = s }) in
+      absurd (omega (arith, q .from-bottom, ap (λ (m : ℕ). word ws m 1) e)))
+      (λ s. omega (arith, q .to-top))
+      (lt-or-ge (word ws i 1) (word ws j 3))
+
+  pub begins-above : (i j x : ℕ) → i < count ws → j < count ws → word ws i 0 ≤ x → x < word ws i 2 → Holds (tileOf ws j) x (word ws i 3) → word ws j 1 ≡ word ws i 3
+  begins-above i j x u v b d q =
+      ⊎-elim
+      (λ (s : word ws j 1 < word ws i 3).
+      let w : word ws i 1 < word ws i 3 = P .boxes .box i u .tall in
+      let e : i ≡ j = P .one i j x (word ws i 3 - 1) u v (record { from-left = b; to-right = d; from-bottom = omega arith; to-top = omega arith }) (record { from-left = q .from-left; to-right = q .to-right; from-bottom = omega arith; to-top = omega (arith, q .to-top) }) in
+      absurd (omega (arith, q .to-top, ap (λ (m : ℕ). word ws m 3) e)))
+      (λ s. omega (arith, q .from-bottom))
+      (lt-or-ge (word ws j 1) (word ws i 3))
+
   row : (i y : ℕ) → i < count ws → word ws i 1 ≤ y → y < word ws i 3 → RunOf (width ws) (pictureOf ws) (tileOf ws i) y
   row i y u b d =
       let bx = P .boxes .box i u in
@@ -96,27 +116,12 @@ module _ (ws : List ℕ) (P : Plane ws) where
         below = λ a r.
             let j = P .cover (word ws i 0) (word ws i 1 - 1) (omega (arith, bx .wide, bx .inside)) (omega (arith, bx .tall, bx .under)) in
             let k = stacked i (j .0) (word ws i 1 - 1) u (j .1) r (j .2) in
-            let tp : word ws (j .0) 3 ≡ word ws i 1 = ⊎-elim
-            (λ (s : word ws i 1 < word ws (j .0) 3).
-            let e : i ≡ j .0 = P .one i (j .0) (word ws i 0) (word ws i 1) u (j .1)
-            (record { from-left = omega arith; to-right = bx .wide; from-bottom = omega arith; to-top = bx .tall })
-            (record { from-left = j .2 .from-left; to-right = j .2 .to-right; from-bottom = omega (arith, j .2 .from-bottom); to-top = s }) in
-            absurd (omega (arith, j .2 .from-bottom, ap (λ (m : ℕ). word ws m 1) e)))
-            (λ s. omega (arith, j .2 .to-top))
-            (lt-or-ge (word ws i 1) (word ws (j .0) 3)) in
+            let tp = ends-below i (j .0) (word ws i 0) u (j .1) a (omega arith) (bx .wide) (j .2) in
             P .apart (j .0) i (j .1) u (record { joins = sym tp; left = sym (k .0); right = sym (k .1); kind = sym (k .2) });
         above = λ a r.
             let j = P .cover (word ws i 0) (word ws i 3) (omega (arith, bx .wide, bx .inside)) a in
             let k = stacked i (j .0) (word ws i 3) u (j .1) r (j .2) in
-            let tl : word ws i 1 < word ws i 3 = bx .tall in
-            let bt : word ws (j .0) 1 ≡ word ws i 3 = ⊎-elim
-            (λ (s : word ws (j .0) 1 < word ws i 3).
-            let e : i ≡ j .0 = P .one i (j .0) (word ws i 0) (word ws i 3 - 1) u (j .1)
-            (record { from-left = omega arith; to-right = bx .wide; from-bottom = omega arith; to-top = omega arith })
-            (record { from-left = j .2 .from-left; to-right = j .2 .to-right; from-bottom = omega arith; to-top = omega (arith, j .2 .to-top) }) in
-            absurd (omega (arith, j .2 .to-top, ap (λ (m : ℕ). word ws m 3) e)))
-            (λ s. omega (arith, j .2 .from-bottom))
-            (lt-or-ge (word ws (j .0) 1) (word ws i 3)) in
+            let bt = begins-above i (j .0) (word ws i 0) u (j .1) (omega arith) (bx .wide) (j .2) in
             P .apart i (j .0) u (j .1) (record { joins = bt; left = k .0; right = k .1; kind = k .2 });
       }
 

@@ -1,5 +1,5 @@
 -- What each check of a table's words finds: steps of `vet`, which no reader of its promise needs.
-use Prim.Native.Nat.{ℕ, _-_, _*_, _≤_, _<_}
+use Prim.Native.Nat.{ℕ, _+_, _-_, _*_, _≤_, _<_}
 use mathlib.Core.Path.{_≡_}
 use mathlib.Core.List.{List}
 use Rattle.plane.specs.declared.tile.Tile.{Tile}
@@ -12,6 +12,24 @@ use Rattle.plane.specs.Words.{count, width, height, word}
 pub record Boxed (w h k : ℕ) (a : Tile) : Type 0 where
   pub box : Box w h a
   pub type : a .kind < k
+
+-- tile s meets the line with its word `edge`, and spans p from its word `low` to its word low + 2 (left 0, bottom 1, right 2, top 3)
+pub record Touches (ws : List ℕ) (s edge line low p : ℕ) : Type 0 where
+  pub counted : s < count ws
+  pub meets : word ws s edge ≡ line
+  pub from : word ws s low ≤ p
+  pub to : p < word ws s (low + 2)
+
+-- a stitch s to a tile that touches so, which is inside the window if m < n; 65535 if it is outside
+abbrev pub Joint : List ℕ → ℕ → ℕ → ℕ → ℕ → ℕ → ℕ → ℕ → Type 0
+Joint ws m n s edge line low p = (m < n → Touches ws s edge line low p) × (n ≤ m → s ≡ 65535)
+
+-- the four stitches of tile i: lb and bl name tiles that end where it begins, tr and rt tiles that begin where it ends
+pub record Joints (ws : List ℕ) (i : ℕ) : Type 0 where
+  pub lb : Joint ws 0 (word ws i 1) (word ws i 5) 3 (word ws i 1) 0 (word ws i 0)
+  pub bl : Joint ws 0 (word ws i 0) (word ws i 6) 2 (word ws i 0) 1 (word ws i 1)
+  pub tr : Joint ws (word ws i 2) (width ws) (word ws i 7) 0 (word ws i 2) 1 (word ws i 3 - 1)
+  pub rt : Joint ws (word ws i 3) (height ws) (word ws i 8) 1 (word ws i 3) 0 (word ws i 2 - 1)
 
 -- tile j begins at x on row y
 pub record Starts (ws : List ℕ) (j x y : ℕ) : Type 0 where

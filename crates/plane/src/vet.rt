@@ -3,10 +3,8 @@
 use crate::answer::Answer;
 use crate::answer::Refusal;
 use crate::tile::Tile;
-use crate::tile::holds;
 use crate::tile::precedes;
 use crate::words::in_range;
-use crate::words::less;
 use crate::words::nth_tile;
 use crate::words::room_in;
 use crate::words::table_length;
@@ -17,8 +15,8 @@ ghost use Prim.Native.Nat.{ℕ, _+_, _-_, _*_, _<_, _≤_};
 ghost use lib.ListN.{length};
 ghost use Rattle.plane.specs.Answers.{number};
 ghost use Rattle.plane.specs.Words.{Says, Tells, Header, IsTable, count, width, height};
-ghost use Rattle.plane.specs.Plane.{Sized, Names, Link, Stitched, Stitches, Boxes, InOrder, ZeroAfter, Plane};
-ghost use Rattle.plane.specs.Checks.{Boxed, Column, Side, Upper, Framed, Frames, areas, Sound};
+ghost use Rattle.plane.specs.Plane.{Sized, Stitches, Boxes, InOrder, ZeroAfter, Plane};
+ghost use Rattle.plane.specs.Checks.{Boxed, Touches, Joint, Joints, Column, Side, Upper, Framed, Frames, areas, Sound};
 ghost use Rattle.plane.specs.Point.{Vetted, SizedRight};
 
 // Are the header's numbers in their ranges?
@@ -104,27 +102,34 @@ pub fn zero_after(t: &[u16]) -> bool
     all
 }
 
-// Does tile s hold (x,y)?
-pub fn names(t: &[u16], s: u16, x: u16, y: u16) -> bool
-    requires { ⌜ Sized (now t) ⌝ }
-    ensures { λ r. ⌜ Says r (Names (now (t .entry)) s x y) ⌝ }
+// Does tile s meet the line with its word `edge`, and span p from its word `low` to its word low + 2? (left 0, bottom 1, right 2, top 3)
+pub fn touches(t: &[u16], s: u16, edge: usize, line: u16, low: usize, p: u16) -> bool
+    requires { ⌜ (Sized (now t)) × (edge < 4) × (low < 2) ⌝ }
+    ensures { λ r. ⌜ Says r (Touches (now (t .entry)) s edge line low p) ⌝ }
 {
     if t[0] <= s {
         return false;
     }
-    if holds(nth_tile(t, s as usize), x, y) {
-        return true;
+    let j = wide(s);
+    if word_at(t, j, edge) != line {
+        return false;
     }
-    false
+    if p < word_at(t, j, low) {
+        return false;
+    }
+    if word_at(t, j, low + 2) <= p {
+        return false;
+    }
+    true
 }
 
-// Is s a true stitch to the square (x,y), which is inside the window if m < n?
-pub fn linked(t: &[u16], m: u16, n: u16, s: u16, x: u16, y: u16) -> bool
-    requires { ⌜ Sized (now t) ⌝ }
-    ensures { λ r. ⌜ Says r (Link (now (t .entry)) m n s x y) ⌝ }
+// Is s a stitch to a tile that touches so, which is inside the window if m < n?
+pub fn linked(t: &[u16], m: u16, n: u16, s: u16, edge: usize, line: u16, low: usize, p: u16) -> bool
+    requires { ⌜ (Sized (now t)) × (edge < 4) × (low < 2) ⌝ }
+    ensures { λ r. ⌜ Says r (Joint (now (t .entry)) m n s edge line low p) ⌝ }
 {
     if m < n {
-        if names(t, s, x, y) {
+        if touches(t, s, edge, line, low, p) {
             return true;
         }
         return false;
@@ -135,22 +140,22 @@ pub fn linked(t: &[u16], m: u16, n: u16, s: u16, x: u16, y: u16) -> bool
     false
 }
 
-// Are the four stitches of tile i true?
+// Do the four stitches of tile i name tiles that touch it? In a plane they meet its sides, so three comparisons do where a square takes four.
 pub fn stitched(t: &[u16], i: usize) -> bool
     requires { ⌜ (Sized (now t)) × (i < count (now t)) × (Boxes (now t)) ⌝ }
-    ensures { λ r. ⌜ Says r (Stitched (now (t .entry)) i) ⌝ }
+    ensures { λ r. ⌜ Says r (Joints (now (t .entry)) i) ⌝ }
 {
     let a = nth_tile(t, i);
-    if !linked(t, 0, a.bottom, word_at(t, i, 5), a.left, less(a.bottom, 1)) {
+    if !linked(t, 0, a.bottom, word_at(t, i, 5), 3, a.bottom, 0, a.left) {
         return false;
     }
-    if !linked(t, 0, a.left, word_at(t, i, 6), less(a.left, 1), a.bottom) {
+    if !linked(t, 0, a.left, word_at(t, i, 6), 2, a.left, 1, a.bottom) {
         return false;
     }
-    if !linked(t, a.right, t[1], word_at(t, i, 7), a.right, less(a.top, 1)) {
+    if !linked(t, a.right, t[1], word_at(t, i, 7), 0, a.right, 1, a.top - 1) {
         return false;
     }
-    if !linked(t, a.top, t[2], word_at(t, i, 8), less(a.right, 1), a.top) {
+    if !linked(t, a.top, t[2], word_at(t, i, 8), 1, a.top, 0, a.right - 1) {
         return false;
     }
     true
@@ -159,7 +164,7 @@ pub fn stitched(t: &[u16], i: usize) -> bool
 // Are all stitches true?
 pub fn stitches(t: &[u16]) -> bool
     requires { ⌜ (Sized (now t)) × (Boxes (now t)) ⌝ }
-    ensures { λ r. ⌜ Says r (Stitches (now (t .entry))) ⌝ }
+    ensures { λ r. ⌜ Tells r (Stitches (now (t .entry))) (Plane (now (t .entry))) ⌝ }
 {
     let n = t[0] as usize;
     let mut i: usize = 0;

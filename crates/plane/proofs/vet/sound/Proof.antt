@@ -1,4 +1,4 @@
--- `vet::sound` meets its contract: each check is a part of `Sound`, and a field of a plane.
+-- `vet::sound` meets its contract: each check is a part of `Sound`, and a plane passes it.
 use borrow.Author.Needs.{needs}
 use borrow.Author.Tests.{not-true, not-false}
 use Rattle.plane.proofs.vet.sound.Statement.{statement}
@@ -20,7 +20,7 @@ stitches-requires : tie.Need-stitches-requires
 stitches-requires c κs = (c .before .before .before .before .before .pre .0, (rw (not-false (c .before .before .before .boxes .result) (c .before .before .if1 .left)) at (c .before .before .before .boxes .ensures)))
 
 returns-3 : tie.Need-returns-3
-returns-3 c = λ P. (rw (not-true (c .before .stitches .result) (c .if3 .taken)) at (c .before .stitches .ensures)) (P .stitches)
+returns-3 c = rw (not-true (c .before .stitches .result) (c .if3 .taken)) at (c .before .stitches .ensures)
 
 zero-after-requires : tie.Need-zero-after-requires
 zero-after-requires c κs = search needs

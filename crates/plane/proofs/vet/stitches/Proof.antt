@@ -1,4 +1,4 @@
--- `vet::stitches` meets its contract. The invariant: the tiles passed have true stitches.
+-- `vet::stitches` meets its contract. The invariant: the tiles passed have true stitches (`joints-stitched`); a plane's tiles pass (`plane-joints`).
 use Prim.Native.Nat.{ℕ, _≤_, _<_, _-_}
 use native.Mathlib.Omega.{arith}
 use mathlib.Core.Path.{_≡_, refl}
@@ -7,6 +7,7 @@ use borrow.Author.Tests.{not-true, not-false}
 use borrow.Author.Count.{below-more}
 use Rattle.plane.specs.Words.{count}
 use Rattle.plane.specs.Plane.{Stitched}
+use Rattle.plane.proofs.Joints.{joints-stitched, plane-joints}
 use Rattle.plane.proofs.vet.stitches.Statement.{statement}
 use Rattle.plane.proofs.vet.stitches.Tie as tie
 
@@ -30,7 +31,7 @@ stitched-requires c κs = search needs
 
 returns : tie.Need-returns Inv-loop μ-loop
 returns c = let l = c .before .before .before .loop in
-    λ q. (rw (not-true (c .before .stitched .result) (c .if1 .taken)) at (c .before .stitched .ensures)) (q (l .i) (omega arith))
+    λ P. (rw (not-true (c .before .stitched .result) (c .if1 .taken)) at (c .before .stitched .ensures)) (plane-joints _ (l .i) P (omega arith))
 
 add-i : tie.Need-add-i Inv-loop μ-loop
 add-i c = search needs
@@ -40,7 +41,8 @@ loop-less c = search needs
 
 loop-again : tie.Need-loop-again Inv-loop μ-loop
 loop-again c = let l = c .before .before .before .loop in
-    (refl, omega arith, below-more _ _ (l .inv .2) (rw (not-false (c .before .stitched .result) (c .if1 .left)) at (c .before .stitched .ensures)))
+    let s = c .before .before .before .before .before .before in
+    (refl, omega arith, below-more _ _ (l .inv .2) (joints-stitched (s .args .t .now) (l .i) (s .pre .1) (rw (not-false (c .before .stitched .result) (c .if1 .left)) at (c .before .stitched .ensures))))
 
 returns-2 : tie.Need-returns-2 Inv-loop μ-loop
 returns-2 c = λ i u. c .before .loop .inv .2 i (omega arith)
