@@ -1,7 +1,7 @@
 -- The marks and the errors of one piece: what the steps of marking them are handed and what they make. A calm piece has no mark; where none is and no error is recorded near, the errors stay.
 use Prim.Native.Nat.{ℕ, zero, suc, _+_, _-_, _*_, _≤_, _<_, min}
 use native.Mathlib.Omega.{arith}
-use mathlib.Core.Bool.{Bool, true, false, cond}
+use mathlib.Core.Bool.{Bool, true, cond}
 use mathlib.Core.Path.{_≡_, refl, sym, _∙_, ap, subst}
 use mathlib.Core.Logic.{⊎-elim}
 use mathlib.Core.List.{List}
@@ -20,7 +20,7 @@ use Rattle.plane.proofs.FromTable.{table-plane, tiles-agree}
 use Rattle.plane.proofs.Tables.{written-count}
 use Rattle.strips.specs.Brush.{Small}
 use Rattle.paint.specs.Paint.{tableLike}
-use Rattle.paint.specs.Tables.{Paintable, PaintedTo}
+use Rattle.paint.specs.Tables.{Paintable, PaintedOver}
 use Rattle.paint.proofs.Calls.{table-at}
 use Rattle.rules.specs.Words.{haloOf, rulesOf}
 use Rattle.rules.proofs.Vetted.{all-apart}
@@ -89,16 +89,12 @@ calm-rows {ms} {rules} {used} {k} {bx} {by} K C = record {
     unset n j f = omega (arith, shr-le n j)
 
 -- ---- tables and pictures
--- a table made in the working room, and copied where it has room
-module _ {c r : ℕ} {ws us : List ℕ} {a : Area} {q : Picture} (T : Paintable c ws a) (W : PaintedTo c ws q us r) where
-  pub remade-full : c < r → Remade ws q false ws
-  remade-full u = record { fits = sym (lt-leb (length (tiles (width ws) (height ws) q)) (roomIn (length ws)) (omega (arith, W .full u, paintable-room T))); leaves = refl }
-
-  pub remade-done : {vs : List ℕ} → r ≤ c → vs ≡ us → Remade ws q true vs
-  remade-done u e = record {
-    fits = sym (le-leb (length (tiles (width ws) (height ws) q)) (roomIn (length ws)) (omega (arith, W .number u, paintable-room T)));
-    leaves = e ∙ made (paintable-room T) W u;
-  }
+-- a table painted over where it has room
+pub remade : {c r : ℕ} {ws vs : List ℕ} {a : Area} {q : Picture} → Paintable c ws a → PaintedOver c ws q vs r → Remade ws q (leb r c) vs
+remade {c} {r} {ws} {vs} {q = q} T P = ⊎-elim
+    (λ (u : c < r). rw (lt-leb r c u) (record { fits = sym (lt-leb (length (tiles (width ws) (height ws) q)) (roomIn (length ws)) (omega (arith, P .full u, paintable-room T))); leaves = P .stays u }))
+    (λ (u : r ≤ c). rw (le-leb r c u) (record { fits = sym (le-leb (length (tiles (width ws) (height ws) q)) (roomIn (length ws)) (omega (arith, P .number u, paintable-room T))); leaves = made (paintable-room T) P u }))
+    (lt-or-ge c r)
 
 -- a table has its picture's tiles
 pub count-tiles : {c : ℕ} {ws : List ℕ} → IsTable c ws → count ws ≡ length (tiles (width ws) (height ws) (pictureOf ws))

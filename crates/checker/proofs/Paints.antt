@@ -17,7 +17,7 @@ use Rattle.plane.specs.Words.{width, height, kinds, roomIn}
 use Rattle.plane.proofs.Basics.{lt-or-ge}
 use Rattle.plane.proofs.Lowests.{AllHold, told-done, refused-first, passed-first}
 use Rattle.paint.specs.Paint.{HasRoom, paintedOf, tableLike}
-use Rattle.paint.specs.Tables.{Paintable, PaintedTo, TilesAfter}
+use Rattle.paint.specs.Tables.{Paintable, PaintedOver, TilesAfter}
 use Rattle.paint.proofs.Calls.{table-at}
 use Rattle.paint.proofs.Whole.{table-length, tiles-of}
 use Rattle.checker.specs.Layout.{Layout, room, OneLength, IsLayout}
@@ -55,7 +55,7 @@ pub paintable-room : {c : ℕ} {ws : List ℕ} {a : Area} → Paintable c ws a �
 paintable-room P = omega (arith, table-length (P .table))
 
 -- what had room once has it again
-pub again-fits : {c r s : ℕ} {ws zs : List ℕ} {q : Picture} → TilesAfter c ws q r → r ≤ c → PaintedTo c ws q zs s → s ≤ c
+pub again-fits : {c r s : ℕ} {ws zs : List ℕ} {q : Picture} → TilesAfter c ws q r → r ≤ c → PaintedOver c ws q zs s → s ≤ c
 again-fits {c} {r} {s} P u Q = ⊎-elim (λ (o : c < s). absurd (omega (arith, Q .full o, P .number u))) (λ (o : s ≤ c). o) (lt-or-ge c s)
 
 module _ {c r : ℕ} {ws : List ℕ} {q : Picture} (e : c ≡ roomIn (length ws)) (P : TilesAfter c ws q r) where
@@ -65,7 +65,7 @@ module _ {c r : ℕ} {ws : List ℕ} {q : Picture} (e : c ≡ roomIn (length ws)
   few-enough : r ≤ c → HasRoom ws q
   few-enough u = omega (arith, P .number u, e)
 
-module _ {c r : ℕ} {ws vs : List ℕ} {q : Picture} (e : c ≡ roomIn (length ws)) (P : PaintedTo c ws q vs r) where
+module _ {c r : ℕ} {ws vs : List ℕ} {q : Picture} (e : c ≡ roomIn (length ws)) (P : PaintedOver c ws q vs r) where
   pub made : r ≤ c → vs ≡ tableLike ws q
   made u = P .done u ∙ ap (λ (n : ℕ). table n (width ws) (height ws) (kinds ws) q) e
 
@@ -75,18 +75,18 @@ module _ {c : ℕ} {m q : List ℕ} {a : Area} {kind n : ℕ} (W : Paintable c q
   pub none-marked : c < n → NonePainted m q a kind m q
   none-marked u = record { full = λ H K. too-many (paintable-room W) P u K; material = refl; waiting = refl }
 
-  module _ {vs : List ℕ} {k : ℕ} (M : Paintable c m a) (Q : PaintedTo c m (paintedOf m a kind) vs k) where
+  module _ {vs : List ℕ} {k : ℕ} (M : Paintable c m a) (Q : PaintedOver c m (paintedOf m a kind) vs k) where
     -- the material would
-    pub none-painted : c < k → NonePainted m q a kind m q
-    none-painted u = record { full = λ H K. too-many (paintable-room M) (tiles-of Q) u H; material = refl; waiting = refl }
+    pub none-painted : c < k → NonePainted m q a kind vs q
+    none-painted u = record { full = λ H K. too-many (paintable-room M) (tiles-of Q) u H; material = Q .stays u; waiting = refl }
 
     -- neither
-    pub both-painted : {zs m' q' : List ℕ} {i : ℕ} → n ≤ c → k ≤ c → m' ≡ vs → PaintedTo c q (paintedOf q a 1) zs i → q' ≡ zs → BothPainted m q a kind m' q'
-    both-painted u v T R S = record {
+    pub both-painted : {zs : List ℕ} {i : ℕ} → n ≤ c → k ≤ c → PaintedOver c q (paintedOf q a 1) zs i → BothPainted m q a kind vs zs
+    both-painted u v R = record {
       room = few-enough (paintable-room M) (tiles-of Q) v;
       room-waiting = few-enough (paintable-room W) P u;
-      material = T ∙ made (paintable-room M) Q v;
-      waiting = let w = again-fits P u R in S ∙ made (paintable-room W) R w;
+      material = made (paintable-room M) Q v;
+      waiting = made (paintable-room W) R (again-fits P u R);
     }
 
 -- ---- the call

@@ -2,9 +2,8 @@
 use crate::shape::Tested;
 use crate::shape::ready;
 use paint::table::clear;
-use paint::table::copy_all;
-use paint::table::paint_into;
-use paint::table::stamp_into;
+use paint::table::paint_table;
+use paint::table::stamp_table;
 use paint::table::tiles_after;
 use piece::calm::calm;
 use piece::rows::near_area;
@@ -96,12 +95,7 @@ fn mark_errors(
     requires { ⌜ (Small near) × (length (now work) ≡ length (now errors)) ⌝ }
     ensures { λ r. ⌜ Remade (now (errors .entry)) (stamped (pictureOf (now (errors .entry))) near rows) r (now (errors .exit)) ⌝ }
 {
-    let marked = stamp_into(errors, near, rows, work, room);
-    if room < marked {
-        return false;
-    }
-    copy_all(work, errors);
-    true
+    stamp_table(errors, near, rows, work, room) <= room
 }
 
 // The block waits no more; false, with waiting as it was, where it has no room.
@@ -110,12 +104,7 @@ fn end_waiting(waiting: &mut [u16], block: Area, work: &mut [u16], room: usize) 
     requires { ⌜ (kinds (now waiting) ≡ 2) × (length (now work) ≡ length (now waiting)) ⌝ }
     ensures { λ r. ⌜ Remade (now (waiting .entry)) (painted (pictureOf (now (waiting .entry))) block 0) r (now (waiting .exit)) ⌝ }
 {
-    let left = paint_into(waiting, block, 0, work, room);
-    if room < left {
-        return false;
-    }
-    copy_all(work, waiting);
-    true
+    paint_table(waiting, block, 0, work, room) <= room
 }
 
 // Marks the errors of the piece at column bx, row by; false, with errors as they were, where they have no room. A piece without a mark,

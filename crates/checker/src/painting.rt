@@ -2,8 +2,7 @@
 use crate::shape::is_layout;
 use crate::shape::one_length;
 use paint::table::clear_from;
-use paint::table::copy_all;
-use paint::table::paint_into;
+use paint::table::paint_table;
 use paint::table::tiles_after;
 use plane::answer::Answer;
 use plane::answer::Refusal;
@@ -20,7 +19,7 @@ ghost use Rattle.checker.specs.Layout.{lent};
 ghost use Rattle.checker.specs.Paint.{Painted};
 ghost use Rattle.checker.specs.Steps.{PaintTested, PaintedBoth, PaintedTables};
 
-// Paints material and waiting of a layout, or neither where one of the two has no room.
+// Paints material and waiting of a layout, or neither where one of the two has no room: waiting is counted before the material is painted.
 fn paint_both(
     material: &mut [u16],
     waiting: &mut [u16],
@@ -38,13 +37,11 @@ fn paint_both(
     if room < marked {
         return false;
     }
-    let tiles = paint_into(material, a, kind, work, room);
+    let tiles = paint_table(material, a, kind, work, room);
     if room < tiles {
         return false;
     }
-    copy_all(work, material);
-    paint_into(waiting, a, 1, work, room);
-    copy_all(work, waiting);
+    paint_table(waiting, a, 1, work, room);
     true
 }
 

@@ -16,7 +16,7 @@ use Rattle.plane.specs.Refusal.{Lowest, Outcome, _unless_}
 use Rattle.plane.specs.Words.{InRange, IsTable, PictureTable, TableLength, height, kinds, roomIn, width}
 use Rattle.paint.specs.Paint.{Blanked, HasRoom, PaintLengths, PlanePainted, PlaneStamped, StampIn, paintedOf, stampedOf, tableLike}
 use Rattle.paint.specs.Steps.{PaintTested, Readied, StampTested, paintTests, readyTests, stampTests}
-use Rattle.paint.specs.Tables.{Paintable, PaintedTo, TakenOver}
+use Rattle.paint.specs.Tables.{Paintable, PaintedOver}
 use Rattle.plane.proofs.Lowests.{AllHold, refused-first, told-done}
 
 -- a table of a room is one of the same room, written otherwise
@@ -70,15 +70,15 @@ ready-words L = omega (arith, L .table .words, L .table .least)
 pub ready-paintable : {ws work : List ℕ} {a : Area} {c : ℕ} → PaintLengths ws work → PictureTable ws → AreaIn (width ws) (height ws) a → c ≡ roomIn (length ws) → Paintable c ws a
 ready-paintable L T A e = record { table = table-at (sym e) T; small = omega (arith, L .table .most); area = A }
 
--- ---- what was made and taken over: the table of the picture, or the words as they were for want of room
-module _ (cs : List (ℕ × Type 0)) {ws us vs : List ℕ} {q : Picture} {c r : ℕ} (A : AllHold cs) (e : c ≡ roomIn (length ws)) (P : PaintedTo c ws q us r) (T : TakenOver c r ws us vs) where
+-- ---- the table painted over: that of the picture, or the words as they were for want of room
+module _ (cs : List (ℕ × Type 0)) {ws vs : List ℕ} {q : Picture} {c r : ℕ} (A : AllHold cs) (e : c ≡ roomIn (length ws)) (P : PaintedOver c ws q vs r) where
   pub over-full : c < r → Outcome (cs ++ (7 unless HasRoom ws q ∷ [])) ws (tableLike ws q) 7 vs
-  over-full u = record { number = passed-then cs (7 unless HasRoom ws q ∷ []) 7 A (inl ((λ H. omega (arith, P .full u)), refl)); leaves = T .stays u }
+  over-full u = record { number = passed-then cs (7 unless HasRoom ws q ∷ []) 7 A (inl ((λ H. omega (arith, P .full u)), refl)); leaves = P .stays u }
 
   pub over-done : r ≤ c → Outcome (cs ++ (7 unless HasRoom ws q ∷ [])) ws (tableLike ws q) 0 vs
   over-done u = record {
     number = passed-then cs (7 unless HasRoom ws q ∷ []) 0 A (inr (omega (arith, P .number u), refl));
-    leaves = T .done u ∙ (P .done u ∙ ap (λ (n : ℕ). table n (width ws) (height ws) (kinds ws) q) e);
+    leaves = P .done u ∙ ap (λ (n : ℕ). table n (width ws) (height ws) (kinds ws) q) e;
   }
 
 -- ---- all tests of paint, and of stamp
@@ -99,12 +99,12 @@ module _ {ws : List ℕ} {a : Area} {k : ℕ} {work : List ℕ} where
   pub paint-refused : {left : List ℕ} {r : Answer} {why : Refusal} → PaintTested ws a k work (number r) → r ≡ No why → left ≡ replicate (length work) 0 → PlanePainted ws a k work (refusalNumber why) ws left
   paint-refused T e z = record { outcome = refused-first (paintTests ws a k work) (7 unless HasRoom ws (paintedOf ws a k) ∷ []) (T .number) e; zero = z }
 
-  module _ {us vs left : List ℕ} {c r : ℕ} (F : AllHold (paintTests ws a k work)) (e : c ≡ roomIn (length ws)) (P : PaintedTo c ws (paintedOf ws a k) us r) (T : TakenOver c r ws us vs) (z : left ≡ replicate (length work) 0) where
+  module _ {vs left : List ℕ} {c r : ℕ} (F : AllHold (paintTests ws a k work)) (e : c ≡ roomIn (length ws)) (P : PaintedOver c ws (paintedOf ws a k) vs r) (z : left ≡ replicate (length work) 0) where
     pub paint-full : c < r → PlanePainted ws a k work 7 vs left
-    paint-full u = record { outcome = over-full (paintTests ws a k work) F e P T u; zero = z }
+    paint-full u = record { outcome = over-full (paintTests ws a k work) F e P u; zero = z }
 
     pub paint-done : r ≤ c → PlanePainted ws a k work 0 vs left
-    paint-done u = record { outcome = over-done (paintTests ws a k work) F e P T u; zero = z }
+    paint-done u = record { outcome = over-done (paintTests ws a k work) F e P u; zero = z }
 
 -- ---- stamp
 module _ {ws : List ℕ} {a : Area} {rows work : List ℕ} where
@@ -117,9 +117,9 @@ module _ {ws : List ℕ} {a : Area} {rows work : List ℕ} where
   pub stamp-refused : {left : List ℕ} {r : Answer} {why : Refusal} → StampTested ws a rows work (number r) → r ≡ No why → left ≡ replicate (length work) 0 → PlaneStamped ws a rows work (refusalNumber why) ws left
   stamp-refused T e z = record { outcome = refused-first (stampTests ws a rows work) (7 unless HasRoom ws (stampedOf ws a rows) ∷ []) (T .number) e; zero = z }
 
-  module _ {us vs left : List ℕ} {c r : ℕ} (F : AllHold (stampTests ws a rows work)) (e : c ≡ roomIn (length ws)) (P : PaintedTo c ws (stampedOf ws a rows) us r) (T : TakenOver c r ws us vs) (z : left ≡ replicate (length work) 0) where
+  module _ {vs left : List ℕ} {c r : ℕ} (F : AllHold (stampTests ws a rows work)) (e : c ≡ roomIn (length ws)) (P : PaintedOver c ws (stampedOf ws a rows) vs r) (z : left ≡ replicate (length work) 0) where
     pub stamp-full : c < r → PlaneStamped ws a rows work 7 vs left
-    stamp-full u = record { outcome = over-full (stampTests ws a rows work) F e P T u; zero = z }
+    stamp-full u = record { outcome = over-full (stampTests ws a rows work) F e P u; zero = z }
 
     pub stamp-done : r ≤ c → PlaneStamped ws a rows work 0 vs left
-    stamp-done u = record { outcome = over-done (stampTests ws a rows work) F e P T u; zero = z }
+    stamp-done u = record { outcome = over-done (stampTests ws a rows work) F e P u; zero = z }

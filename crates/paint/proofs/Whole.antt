@@ -14,7 +14,7 @@ use Rattle.plane.specs.Words.{InRange, IsTable, count, height, kinds, pictureOf
 use Rattle.strips.specs.declared.brush.Brush.{Brush}
 use Rattle.strips.specs.Cover.{Built}
 use Rattle.strips.specs.Brush.{Given, Shown, Small, after, brushArea, brushTile, goal, inked}
-use Rattle.paint.specs.Tables.{FlatBrush, MayPaint, Paintable, PaintedTo, Repainted, TilesAfter}
+use Rattle.paint.specs.Tables.{FlatBrush, MayPaint, Paintable, PaintedOver, TilesAfter}
 use Rattle.plane.proofs.Basics.{bool-cases, tf}
 use Rattle.plane.proofs.FromTable.{picture-table, table-plane}
 use Rattle.plane.proofs.Index.{holds-dec, later, mem-nth, mem-upTo}
@@ -109,14 +109,19 @@ after-types {ws = ws} {b = b} M x y u v = ⊎-elim
     (λ h. subst (λ (k : ℕ). k < kinds ws) (sym (after-in (pictureOf ws) b x y h)) (ink-types M x y))
     (λ h. subst (λ (k : ℕ). k < kinds ws) (sym (after-out (pictureOf ws) b x y h)) (M .table .types x y u v)) (holds-dec (brushTile b) x y)
 
--- ---- what the rebuild makes
-pub painted-to : {c r : ℕ} {ws vs : List ℕ} {b : Brush} → MayPaint c ws b → Repainted ws b c vs r → PaintedTo c ws (goal ws b) vs r
-painted-to {c} {r} {ws} {vs} {b} M R = record {
-  number = R .number;
-  full = R .full;
-  done = R .done;
-  sound = λ u. like-table (goal ws b) vs (M .table) (R .done u) (omega (arith, R .number u)) (after-types M);
-}
+-- ---- what the rebuild makes: too many tiles, or a table
+module _ {c r : ℕ} {ws us : List ℕ} {b : Brush} (M : MayPaint c ws b) (B : Built (width ws) (height ws) (goal ws b) c us r) where
+  pub painted-full : c < r → PaintedOver c ws (goal ws b) ws r
+  painted-full u = record { number = λ v. absurd (omega arith); full = B .full; done = λ v. absurd (omega arith); stays = λ v. refl; sound = M .table }
+
+  pub painted-done : {vs : List ℕ} → r ≤ c → vs ≡ table c (width ws) (height ws) (kinds ws) (goal ws b) → PaintedOver c ws (goal ws b) vs r
+  painted-done {vs} u e = record {
+    number = λ v. built-number B v;
+    full = B .full;
+    done = λ v. e;
+    stays = λ v. absurd (omega arith);
+    sound = like-table (goal ws b) vs (M .table) e (omega (arith, built-number B u)) (after-types M);
+  }
 
 -- ---- a brush of one kind, and one of bits
 after-cases : Picture → Brush → Bool → Picture
@@ -144,12 +149,12 @@ after-flat {kind} ws {a} {b} F = after-painted (pictureOf ws) b (F .one)
 pub bits-may : {c : ℕ} {ws : List ℕ} {b : Brush} → Paintable c ws (brushArea b) → Small (brushArea b) → b .bits ≡ true → MayPaint c ws b
 bits-may P s e = record { table = P .table; small = P .small; brush = record { area = P .area; small = λ t. s }; type = λ t. tf (sym e ∙ t) }
 
-pub painted-as : {c r : ℕ} {ws vs : List ℕ} {q s : Picture} → q ≡ s → PaintedTo c ws q vs r → PaintedTo c ws s vs r
-painted-as {c} {r} {ws} {vs} e P = subst (λ (p : Picture). PaintedTo c ws p vs r) e P
+pub painted-as : {c r : ℕ} {ws vs : List ℕ} {q s : Picture} → q ≡ s → PaintedOver c ws q vs r → PaintedOver c ws s vs r
+painted-as {c} {r} {ws} {vs} e P = subst (λ (p : Picture). PaintedOver c ws p vs r) e P
 
 -- ---- how many tiles
 -- a table that was made has so many
-pub tiles-of : {c r : ℕ} {ws vs : List ℕ} {q : Picture} → PaintedTo c ws q vs r → TilesAfter c ws q r
+pub tiles-of : {c r : ℕ} {ws vs : List ℕ} {q : Picture} → PaintedOver c ws q vs r → TilesAfter c ws q r
 tiles-of P = record { number = P .number; full = P .full }
 
 -- and so have the tiles of the rebuild

@@ -9,8 +9,7 @@ use Rattle.plane.specs.Picture.{Picture, tiles, table}
 use Rattle.plane.specs.Words.{count, width, height, kinds, IsTable}
 use Rattle.plane.specs.Area.{AreaIn}
 use Rattle.strips.specs.declared.brush.Brush.{Brush}
-use Rattle.strips.specs.Brush.{BrushIn, brushArea, goal}
-use Rattle.strips.specs.Cover.{TooMany}
+use Rattle.strips.specs.Brush.{BrushIn, brushArea}
 
 -- the header is set, and all else stays
 pub record Headed (ws vs : List ℕ) (n w h k : ℕ) : Type 0 where
@@ -21,17 +20,24 @@ pub record Headed (ws vs : List ℕ) (n w h k : ℕ) : Type 0 where
   pub types : kinds vs ≡ k
   pub old : (m : ℕ) → 4 ≤ m → getD vs m 0 ≡ getD ws m 0
 
+-- the words from e up to i are zero, and all others stay
+pub record Zeroed (ws vs : List ℕ) (e i : ℕ) : Type 0 where
+  pub long : length vs ≡ length ws
+  pub zero : (m : ℕ) → e ≤ m → m < i → getD vs m 0 ≡ 0
+  pub old : (m : ℕ) → m < e → getD vs m 0 ≡ getD ws m 0
+  pub rest : (m : ℕ) → i ≤ m → getD vs m 0 ≡ getD ws m 0
+
 -- the words from e on are zero, and those before stay
 pub record Cleared (ws vs : List ℕ) (e : ℕ) : Type 0 where
   pub long : length vs ≡ length ws
   pub zero : (m : ℕ) → e ≤ m → getD vs m 0 ≡ 0
   pub old : (m : ℕ) → m < e → getD vs m 0 ≡ getD ws m 0
 
--- r is the number of tiles of the picture after, and vs its table; or r and that number are above the room
-pub record Repainted (ws : List ℕ) (b : Brush) (room : ℕ) (vs : List ℕ) (r : ℕ) : Type 0 where
-  pub full : room < r → TooMany (width ws) (height ws) (goal ws b) room
-  pub number : r ≤ room → r ≡ length (tiles (width ws) (height ws) (goal ws b))
-  pub done : r ≤ room → vs ≡ table room (width ws) (height ws) (kinds ws) (goal ws b)
+-- the first n words of us became those of ws, and all others stay
+pub record Copied (ws us vs : List ℕ) (n : ℕ) : Type 0 where
+  pub long : length vs ≡ length us
+  pub front : (m : ℕ) → m < n → getD vs m 0 ≡ getD ws m 0
+  pub rest : (m : ℕ) → n ≤ m → getD vs m 0 ≡ getD us m 0
 
 -- a table of room c, and a brush for its window and types
 pub record MayPaint (c : ℕ) (ws : List ℕ) (b : Brush) : Type 0 where
@@ -57,14 +63,10 @@ pub record TilesAfter (c : ℕ) (ws : List ℕ) (q : Picture) (r : ℕ) : Type 0
   pub number : r ≤ c → r ≡ length (tiles (width ws) (height ws) q)
   pub full : c < r → c < length (tiles (width ws) (height ws) q)
 
--- r is the number of tiles of the picture q, and vs its table, of the size and types of ws; or r and that number are above the room
-pub record PaintedTo (c : ℕ) (ws : List ℕ) (q : Picture) (vs : List ℕ) (r : ℕ) : Type 0 where
+-- the table ws became vs, that of the picture q, and r is its number of tiles; or r and that number are above the room, and ws stays
+pub record PaintedOver (c : ℕ) (ws : List ℕ) (q : Picture) (vs : List ℕ) (r : ℕ) : Type 0 where
   pub number : r ≤ c → r ≡ length (tiles (width ws) (height ws) q)
   pub full : c < r → c < length (tiles (width ws) (height ws) q)
   pub done : r ≤ c → vs ≡ table c (width ws) (height ws) (kinds ws) q
-  pub sound : r ≤ c → IsTable c vs
-
--- ws becomes us, what was made, where r is within the room c, and stays where it is not
-pub record TakenOver (c r : ℕ) (ws us vs : List ℕ) : Type 0 where
-  pub done : r ≤ c → vs ≡ us
   pub stays : c < r → vs ≡ ws
+  pub sound : IsTable c vs

@@ -1,10 +1,9 @@
 // The calls: a table of space, and a table with an area set to a type or to bits. Each tests all that it is lent, and says no by the lowest
 // number that applies; the working room is zero afterwards, whatever the answer.
 use crate::table::clear;
-use crate::table::paint_into;
+use crate::table::paint_table;
 use crate::table::space_table;
-use crate::table::stamp_into;
-use crate::table::take_over;
+use crate::table::stamp_table;
 use plane::answer::Answer;
 use plane::answer::Refusal;
 use plane::area::area_in;
@@ -76,8 +75,8 @@ pub fn paint(t: &mut [u16], a: Area, kind: u16, work: &mut [u16]) -> Answer
         return Answer::No(why);
     }
     let room = room_in(t.len());
-    let r = paint_into(t, a, kind, work, room);
-    take_over(t, work, r, room);
+    let r = paint_table(t, a, kind, work, room);
+    clear(work);
     if room < r {
         return Answer::No(Refusal::Full);
     }
@@ -124,8 +123,8 @@ pub fn stamp(t: &mut [u16], a: Area, rows: [u64; 48], work: &mut [u16]) -> Answe
         return Answer::No(why);
     }
     let room = room_in(t.len());
-    let r = stamp_into(t, a, rows, work, room);
-    take_over(t, work, r, room);
+    let r = stamp_table(t, a, rows, work, room);
+    clear(work);
     if room < r {
         return Answer::No(Refusal::Full);
     }

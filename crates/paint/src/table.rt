@@ -1,4 +1,5 @@
-// Whole tables: of space, and of the picture after, made in working room and taken over. For callers that have tested what they are lent.
+// Whole tables: of space, and of the picture after, made at the front of the working room and taken over. For callers that have tested what
+// they are lent.
 use plane::tile::Area;
 use plane::tile::Tile;
 use stitches::restitch::restitch;
@@ -10,9 +11,10 @@ ghost use mathlib.Core.Path.{_≡_};
 ghost use Prim.Native.Nat.{_+_, _*_, _<_, _≤_};
 ghost use lib.ListN.{length, replicate};
 ghost use Rattle.plane.specs.Picture.{table, space, painted, stamped};
-ghost use Rattle.plane.specs.Words.{count, kinds, pictureOf};
-ghost use Rattle.strips.specs.Brush.{Small, Given, goal};
-ghost use Rattle.paint.specs.Tables.{Headed, Cleared, Repainted, MayPaint, Paintable, FlatBrush, TilesAfter, PaintedTo, TakenOver};
+ghost use Rattle.plane.specs.Plane.{Plane};
+ghost use Rattle.plane.specs.Words.{kinds, pictureOf};
+ghost use Rattle.strips.specs.Brush.{Small, goal};
+ghost use Rattle.paint.specs.Tables.{Headed, Zeroed, Cleared, Copied, MayPaint, Paintable, FlatBrush, TilesAfter, PaintedOver};
 
 // Writes the header.
 pub fn put_header(work: &mut [u16], n: usize, w: u16, h: u16, k: u16)
@@ -25,15 +27,24 @@ pub fn put_header(work: &mut [u16], n: usize, w: u16, h: u16, k: u16)
     work[3] = k;
 }
 
+// Sets the words from one place up to another to zero.
+fn clear_to(t: &mut [u16], from: usize, to: usize)
+    requires { ⌜ to ≤ length (now t) ⌝ }
+    ensures { λ _. ⌜ Zeroed (now (t .entry)) (now (t .exit)) from to ⌝ }
+{
+    let mut i = from;
+    while i < to {
+        t[i] = 0;
+        i += 1;
+    }
+}
+
 // Sets the words from a place on to zero.
 pub fn clear_from(work: &mut [u16], from: usize)
     ensures { λ _. ⌜ Cleared (now (work .entry)) (now (work .exit)) from ⌝ }
 {
-    let mut i = from;
-    while i < work.len() {
-        work[i] = 0;
-        i += 1;
-    }
+    let end = work.len();
+    clear_to(work, from, end);
 }
 
 // Sets all words to zero.
@@ -43,37 +54,34 @@ pub fn clear(work: &mut [u16])
     clear_from(work, 0);
 }
 
-// Copies all words.
-pub fn copy_all(from: &[u16], to: &mut [u16])
-    requires { ⌜ length (now to) ≡ length (now from) ⌝ }
-    ensures { λ _. ⌜ now (to .exit) ≡ now (from .entry) ⌝ }
+// Copies the first n words.
+fn copy_front(from: &[u16], to: &mut [u16], n: usize)
+    requires { ⌜ (n ≤ length (now from)) × (n ≤ length (now to)) ⌝ }
+    ensures { λ _. ⌜ Copied (now (from .entry)) (now (to .entry)) (now (to .exit)) n ⌝ }
 {
     let mut i = 0;
-    while i < from.len() {
+    while i < n {
         to[i] = from[i];
         i += 1;
     }
 }
 
-// What was made in the working slice becomes the table, if it has room. The working slice is cleared.
-pub fn take_over(t: &mut [u16], work: &mut [u16], r: usize, room: usize)
-    requires { ⌜ length (now work) ≡ length (now t) ⌝ }
-    ensures { λ _. ⌜ TakenOver room r (now (t .entry)) (now (work .entry)) (now (t .exit)) ⌝ }
-    ensures { λ _. ⌜ now (work .exit) ≡ replicate (length (now (work .entry))) 0 ⌝ }
+// The table t takes over the header and the n tiles that the working slice has. Where t had more tiles, their words become zero.
+fn adopt(t: &mut [u16], work: &[u16], n: usize)
+    requires { ⌜ Plane (now t) × (length (now t) ≡ length (now work)) × (4 + 9 * n ≤ length (now t)) ⌝ }
+    ensures { λ _. ⌜ Cleared (now (work .entry)) (now (t .exit)) (4 + 9 * n) ⌝ }
 {
-    if room < r {
-        clear(work);
-        return;
-    }
-    copy_all(work, t);
-    clear(work);
+    let end = 4 + 9 * n;
+    let old = 4 + 9 * (t[0] as usize);
+    copy_front(work, t, end);
+    clear_to(t, end, old);
 }
 
-// The table of the picture after, in the working slice, and how many tiles it has; more than the room where it has too many.
-pub fn repaint(t: &[u16], b: Brush, work: &mut [u16], room: usize) -> usize
-    requires { ⌜ Given (now t) b ⌝ }
-    requires { ⌜ (length (now work) ≡ length (now t)) × (length (now t) ≡ 4 + 9 * room) × (count (now t) ≤ room) × (room ≤ 3600) ⌝ }
-    ensures { λ r. ⌜ Repainted (now (t .entry)) b room (now (work .exit)) r ⌝ }
+// Paints a table over: how many tiles it then has; more than its room, and the table as it was, where they are too many.
+fn paint_over(t: &mut [u16], b: Brush, work: &mut [u16], room: usize) -> usize
+    requires { ⌜ MayPaint room (now t) b ⌝ }
+    requires { ⌜ length (now work) ≡ length (now t) ⌝ }
+    ensures { λ r. ⌜ PaintedOver room (now (t .entry)) (goal (now (t .entry)) b) (now (t .exit)) r ⌝ }
 {
     let n = rebuild(t, b, work, room);
     if room < n {
@@ -81,7 +89,7 @@ pub fn repaint(t: &[u16], b: Brush, work: &mut [u16], room: usize) -> usize
     }
     restitch(t, work, n);
     put_header(work, n, t[1], t[2], t[3]);
-    clear_from(work, 4 + 9 * n);
+    adopt(t, work, n);
     n
 }
 
@@ -103,15 +111,6 @@ pub fn space_table(t: &mut [u16], w: u16, h: u16, kinds: u16, room: usize)
     clear_from(t, 13);
 }
 
-// Paints a table over, into the working slice: how many tiles it then has, more than its room where they are too many.
-pub fn paint_over(t: &[u16], b: Brush, work: &mut [u16], room: usize) -> usize
-    requires { ⌜ MayPaint room (now t) b ⌝ }
-    requires { ⌜ length (now work) ≡ length (now t) ⌝ }
-    ensures { λ r. ⌜ PaintedTo room (now (t .entry)) (goal (now (t .entry)) b) (now (work .exit)) r ⌝ }
-{
-    repaint(t, b, work, room)
-}
-
 // An area of one type.
 fn flat_brush(a: Area, kind: u16) -> Brush
     ensures { λ r. ⌜ FlatBrush a kind r ⌝ }
@@ -127,17 +126,17 @@ fn flat_brush(a: Area, kind: u16) -> Brush
     }
 }
 
-// The same with an area set to a type.
-pub fn paint_into(t: &[u16], a: Area, kind: u16, work: &mut [u16], room: usize) -> usize
+// Paints a table in place: an area is set to a type. The working slice may hold anything, before and after.
+pub fn paint_table(t: &mut [u16], a: Area, kind: u16, work: &mut [u16], room: usize) -> usize
     requires { ⌜ Paintable room (now t) a ⌝ }
     requires { ⌜ (kind < kinds (now t)) × (length (now work) ≡ length (now t)) ⌝ }
-    ensures { λ r. ⌜ PaintedTo room (now (t .entry)) (painted (pictureOf (now (t .entry))) a kind) (now (work .exit)) r ⌝ }
+    ensures { λ r. ⌜ PaintedOver room (now (t .entry)) (painted (pictureOf (now (t .entry))) a kind) (now (t .exit)) r ⌝ }
 {
     let b = flat_brush(a, kind);
     paint_over(t, b, work, room)
 }
 
-// How many tiles that would be. It costs less, since the working slice gets no table.
+// How many tiles that would be. The table stays, and it costs less, since nothing is stitched.
 pub fn tiles_after(t: &[u16], a: Area, kind: u16, work: &mut [u16], room: usize) -> usize
     requires { ⌜ Paintable room (now t) a ⌝ }
     requires { ⌜ (kind < kinds (now t)) × (length (now work) ≡ length (now t)) ⌝ }
@@ -148,10 +147,10 @@ pub fn tiles_after(t: &[u16], a: Area, kind: u16, work: &mut [u16], room: usize)
 }
 
 // The same with an area of at most 48 by 48 squares set to its bits.
-pub fn stamp_into(t: &[u16], a: Area, rows: [u64; 48], work: &mut [u16], room: usize) -> usize
+pub fn stamp_table(t: &mut [u16], a: Area, rows: [u64; 48], work: &mut [u16], room: usize) -> usize
     requires { ⌜ Paintable room (now t) a ⌝ }
     requires { ⌜ (Small a) × (length (now work) ≡ length (now t)) ⌝ }
-    ensures { λ r. ⌜ PaintedTo room (now (t .entry)) (stamped (pictureOf (now (t .entry))) a rows) (now (work .exit)) r ⌝ }
+    ensures { λ r. ⌜ PaintedOver room (now (t .entry)) (stamped (pictureOf (now (t .entry))) a rows) (now (t .exit)) r ⌝ }
 {
     let b = Brush {
         x1: a.x1,

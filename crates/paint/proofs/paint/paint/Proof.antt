@@ -31,11 +31,11 @@ enum-told c = search needs
 room-in-requires : tie.Need-room-in-requires
 room-in-requires c κs = search needs
 
-paint-into-requires : tie.Need-paint-into-requires
-paint-into-requires c κs = let F = paint-fit (c .before .before .before .before .before .paint-tests .ensures) (c .before .before .before .enum-told .given .1) in (ready-paintable (F .0) (F .1 .0) (F .1 .1 .1 .0) (c .before .before .room-in .ensures), (F .1 .1 .0, F .0 .working))
+paint-table-requires : tie.Need-paint-table-requires
+paint-table-requires c κs = let F = paint-fit (c .before .before .before .before .before .paint-tests .ensures) (c .before .before .before .enum-told .given .1) in (ready-paintable (F .0) (F .1 .0) (F .1 .1 .1 .0) (c .before .before .room-in .ensures), (F .1 .1 .0, F .0 .working))
 
-take-over-requires : tie.Need-take-over-requires
-take-over-requires c κs = let F = paint-fit (c .before .before .before .before .before .before .before .before .before .before .paint-tests .ensures) (c .before .before .before .before .before .before .before .before .enum-told .given .1) in c .before .before .before .before .paint-into .kept .1 .1 .1 .0 ∙ F .0 .working
+clear-requires-2 : tie.Need-clear-requires-2
+clear-requires-2 c κs = search needs
 
 same-length-3 : tie.Need-same-length-3
 same-length-3 c = search needs
@@ -44,7 +44,7 @@ same-length-4 : tie.Need-same-length-4
 same-length-4 c = search needs
 
 returns-2 : tie.Need-returns-2
-returns-2 c = paint-full (paint-fit (c .before .before .before .before .before .before .before .before .before .before .before .before .before .before .before .before .paint-tests .ensures) (c .before .before .before .before .before .before .before .before .before .before .before .before .before .before .enum-told .given .1)) (c .before .before .before .before .before .before .before .before .before .before .before .before .before .room-in .ensures) (c .before .before .before .before .before .before .before .before .before .before .paint-into .ensures) (c .before .before .before .before .before .take-over .ensures .0) (c .before .before .before .before .before .take-over .ensures .1 ∙ ap (λ (n : ℕ). replicate {A = ℕ} n 0) (c .before .before .before .before .before .before .before .before .before .before .paint-into .kept .1 .1 .1 .0)) (c .if1 .taken)
+returns-2 c = paint-full (paint-fit (c .before .before .before .before .before .before .before .before .before .before .before .before .before .before .before .paint-tests .ensures) (c .before .before .before .before .before .before .before .before .before .before .before .before .before .enum-told .given .1)) (c .before .before .before .before .before .before .before .before .before .before .before .before .room-in .ensures) (c .before .before .before .before .before .before .before .before .before .paint-table .ensures) (c .before .before .before .clear2 .ensures ∙ ap (λ (n : ℕ). replicate {A = ℕ} n 0) (c .before .before .before .before .before .before .before .before .before .paint-table .kept .1 .1 .1 .0)) (c .if1 .taken)
 
 same-length-5 : tie.Need-same-length-5
 same-length-5 c = search needs
@@ -53,7 +53,7 @@ same-length-6 : tie.Need-same-length-6
 same-length-6 c = search needs
 
 returns-3 : tie.Need-returns-3
-returns-3 c = paint-done (paint-fit (c .before .before .before .before .before .before .before .before .before .before .before .before .before .before .before .before .paint-tests .ensures) (c .before .before .before .before .before .before .before .before .before .before .before .before .before .before .enum-told .given .1)) (c .before .before .before .before .before .before .before .before .before .before .before .before .before .room-in .ensures) (c .before .before .before .before .before .before .before .before .before .before .paint-into .ensures) (c .before .before .before .before .before .take-over .ensures .0) (c .before .before .before .before .before .take-over .ensures .1 ∙ ap (λ (n : ℕ). replicate {A = ℕ} n 0) (c .before .before .before .before .before .before .before .before .before .before .paint-into .kept .1 .1 .1 .0)) (c .if1 .left)
+returns-3 c = paint-done (paint-fit (c .before .before .before .before .before .before .before .before .before .before .before .before .before .before .before .paint-tests .ensures) (c .before .before .before .before .before .before .before .before .before .before .before .before .before .enum-told .given .1)) (c .before .before .before .before .before .before .before .before .before .before .before .before .room-in .ensures) (c .before .before .before .before .before .before .before .before .before .paint-table .ensures) (c .before .before .before .clear2 .ensures ∙ ap (λ (n : ℕ). replicate {A = ℕ} n 0) (c .before .before .before .before .before .before .before .before .before .paint-table .kept .1 .1 .1 .0)) (c .if1 .left)
 
 pub paint-spec : {M : Type 1} → statement M
 paint-spec =
@@ -67,8 +67,8 @@ paint-spec =
     returns
     enum-told
     room-in-requires
-    paint-into-requires
-    take-over-requires
+    paint-table-requires
+    clear-requires-2
     same-length-3
     same-length-4
     returns-2

@@ -31,11 +31,11 @@ enum-told c = search needs
 room-in-requires : tie.Need-room-in-requires
 room-in-requires c κs = search needs
 
-stamp-into-requires : tie.Need-stamp-into-requires
-stamp-into-requires c κs = let F = stamp-fit (c .before .before .before .before .before .stamp-tests .ensures) (c .before .before .before .enum-told .given .1) in (ready-paintable (F .0) (F .1 .0) (F .1 .1 .0 .area) (c .before .before .room-in .ensures), (F .1 .1 .0 .small, F .0 .working))
+stamp-table-requires : tie.Need-stamp-table-requires
+stamp-table-requires c κs = let F = stamp-fit (c .before .before .before .before .before .stamp-tests .ensures) (c .before .before .before .enum-told .given .1) in (ready-paintable (F .0) (F .1 .0) (F .1 .1 .0 .area) (c .before .before .room-in .ensures), (F .1 .1 .0 .small, F .0 .working))
 
-take-over-requires : tie.Need-take-over-requires
-take-over-requires c κs = let F = stamp-fit (c .before .before .before .before .before .before .before .before .before .before .stamp-tests .ensures) (c .before .before .before .before .before .before .before .before .enum-told .given .1) in c .before .before .before .before .stamp-into .kept .1 .1 .1 .0 ∙ F .0 .working
+clear-requires-2 : tie.Need-clear-requires-2
+clear-requires-2 c κs = search needs
 
 same-length-3 : tie.Need-same-length-3
 same-length-3 c = search needs
@@ -44,7 +44,7 @@ same-length-4 : tie.Need-same-length-4
 same-length-4 c = search needs
 
 returns-2 : tie.Need-returns-2
-returns-2 c = stamp-full (stamp-fit (c .before .before .before .before .before .before .before .before .before .before .before .before .before .before .before .before .stamp-tests .ensures) (c .before .before .before .before .before .before .before .before .before .before .before .before .before .before .enum-told .given .1)) (c .before .before .before .before .before .before .before .before .before .before .before .before .before .room-in .ensures) (c .before .before .before .before .before .before .before .before .before .before .stamp-into .ensures) (c .before .before .before .before .before .take-over .ensures .0) (c .before .before .before .before .before .take-over .ensures .1 ∙ ap (λ (n : ℕ). replicate {A = ℕ} n 0) (c .before .before .before .before .before .before .before .before .before .before .stamp-into .kept .1 .1 .1 .0)) (c .if1 .taken)
+returns-2 c = stamp-full (stamp-fit (c .before .before .before .before .before .before .before .before .before .before .before .before .before .before .before .stamp-tests .ensures) (c .before .before .before .before .before .before .before .before .before .before .before .before .before .enum-told .given .1)) (c .before .before .before .before .before .before .before .before .before .before .before .before .room-in .ensures) (c .before .before .before .before .before .before .before .before .before .stamp-table .ensures) (c .before .before .before .clear2 .ensures ∙ ap (λ (n : ℕ). replicate {A = ℕ} n 0) (c .before .before .before .before .before .before .before .before .before .stamp-table .kept .1 .1 .1 .0)) (c .if1 .taken)
 
 same-length-5 : tie.Need-same-length-5
 same-length-5 c = search needs
@@ -53,7 +53,7 @@ same-length-6 : tie.Need-same-length-6
 same-length-6 c = search needs
 
 returns-3 : tie.Need-returns-3
-returns-3 c = stamp-done (stamp-fit (c .before .before .before .before .before .before .before .before .before .before .before .before .before .before .before .before .stamp-tests .ensures) (c .before .before .before .before .before .before .before .before .before .before .before .before .before .before .enum-told .given .1)) (c .before .before .before .before .before .before .before .before .before .before .before .before .before .room-in .ensures) (c .before .before .before .before .before .before .before .before .before .before .stamp-into .ensures) (c .before .before .before .before .before .take-over .ensures .0) (c .before .before .before .before .before .take-over .ensures .1 ∙ ap (λ (n : ℕ). replicate {A = ℕ} n 0) (c .before .before .before .before .before .before .before .before .before .before .stamp-into .kept .1 .1 .1 .0)) (c .if1 .left)
+returns-3 c = stamp-done (stamp-fit (c .before .before .before .before .before .before .before .before .before .before .before .before .before .before .before .stamp-tests .ensures) (c .before .before .before .before .before .before .before .before .before .before .before .before .before .enum-told .given .1)) (c .before .before .before .before .before .before .before .before .before .before .before .before .room-in .ensures) (c .before .before .before .before .before .before .before .before .before .stamp-table .ensures) (c .before .before .before .clear2 .ensures ∙ ap (λ (n : ℕ). replicate {A = ℕ} n 0) (c .before .before .before .before .before .before .before .before .before .stamp-table .kept .1 .1 .1 .0)) (c .if1 .left)
 
 pub stamp-spec : {M : Type 1} → statement M
 stamp-spec =
@@ -67,8 +67,8 @@ stamp-spec =
     returns
     enum-told
     room-in-requires
-    stamp-into-requires
-    take-over-requires
+    stamp-table-requires
+    clear-requires-2
     same-length-3
     same-length-4
     returns-2

@@ -1,19 +1,19 @@
--- Copied up to i: `CopiedTo`.
-use Prim.Native.Nat.{_-_}
+-- Copied up to i: `Copied`.
+use Prim.Native.Nat.{_-_, _≤_}
 use native.Mathlib.Omega.{arith}
-use lib.ListN.{length}
-use Rattle.paint.proofs.Fills.{CopiedTo, copied-all, copied-more, copied-none}
-use Rattle.paint.proofs.table.copy_all.Statement.{statement}
-use Rattle.paint.proofs.table.copy_all.Tie as tie
+use Rattle.paint.specs.Tables.{Copied}
+use Rattle.paint.proofs.Fills.{copied-all, copied-more, copied-none}
+use Rattle.paint.proofs.table.copy_front.Statement.{statement}
+use Rattle.paint.proofs.table.copy_front.Tie as tie
 
 abbrev Inv-loop : tie.InvT-loop
-Inv-loop from to₀ i₀ to i = CopiedTo from to₀ to i
+Inv-loop from to₀ n i₀ to i = Copied from to₀ to i × (i ≤ n)
 
 abbrev μ-loop : tie.MeasureT-loop
-μ-loop from to₀ i₀ to i = length from - i
+μ-loop from to₀ n i₀ to i = n - i
 
 loop-holds : tie.Need-loop-holds Inv-loop μ-loop
-loop-holds c = copied-none _ _
+loop-holds c = (copied-none _ _, omega arith)
 
 mul-to : tie.Need-mul-to Inv-loop μ-loop
 mul-to c = omega arith
@@ -25,7 +25,7 @@ mul-to-2 : tie.Need-mul-to-2 Inv-loop μ-loop
 mul-to-2 c = omega arith
 
 slice-write-to : tie.Need-slice-write-to Inv-loop μ-loop
-slice-write-to c = omega (arith, c .before .before .loop .inv .long, c .before .before .before .pre)
+slice-write-to c = omega (arith, c .before .before .loop .inv .0 .long)
 
 add-i : tie.Need-add-i Inv-loop μ-loop
 add-i c = omega arith
@@ -34,16 +34,16 @@ loop-less : tie.Need-loop-less Inv-loop μ-loop
 loop-less c = omega arith
 
 loop-again : tie.Need-loop-again Inv-loop μ-loop
-loop-again c = copied-more (c .before .before .loop .inv) (c .before .loop-test .taken) (c .before .before .before .pre)
+loop-again c = (copied-more (c .before .before .loop .inv .0) (omega arith), omega arith)
 
 same-length : tie.Need-same-length Inv-loop μ-loop
-same-length c = c .before .loop .inv .long
+same-length c = c .before .loop .inv .0 .long
 
 returns : tie.Need-returns Inv-loop μ-loop
-returns c = copied-all (c .before .loop .inv) (c .loop-test .left) (c .before .before .pre)
+returns c = copied-all (c .before .loop .inv .0) (omega arith)
 
-pub copy-all-spec : {M : Type 1} → statement M
-copy-all-spec =
+pub copy-front-spec : {M : Type 1} → statement M
+copy-front-spec =
     tie.close
     (tie.spec
     Inv-loop
