@@ -1,4 +1,5 @@
 -- The tiles of waiting are counted first; what had room once has it again. A law of Paints at each return.
+use native.Mathlib.Omega.{arith}
 use Rattle.checker.proofs.Paints.{none-marked, none-painted, both-painted}
 use mathlib.Core.Path.{sym, _∙_}
 use borrow.Author.Needs.{needs}
@@ -33,7 +34,7 @@ returns-2 : tie.Need-returns-2
 returns-2 c = none-painted (c .before .before .before .before .before .before .before .before .before .before .before .before .before .before .before .before .before .pre .0 .1) (c .before .before .before .before .before .before .before .before .before .before .before .tiles-after .ensures) (c .before .before .before .before .before .before .before .before .before .before .before .before .before .before .before .before .before .pre .0 .0) (c .before .before .before .before .before .paint-table .ensures) (c .if2 .taken)
 
 paint-table-requires-2 : tie.Need-paint-table-requires-2
-paint-table-requires-2 c κs = (c .before .before .before .before .before .before .before .before .before .before .before .before .before .before .before .before .before .before .before .pre .0 .1, (c .before .before .before .before .before .before .before .before .before .before .before .before .before .before .before .before .before .before .before .pre .1 .0 .1, c .before .before .before .before .before .before .before .paint-table .kept .1 .1 .1 .0 ∙ (c .before .before .before .before .before .before .before .before .before .before .before .before .before .tiles-after .kept .1 .1 .1 .0 ∙ (c .before .before .before .before .before .before .before .before .before .before .before .before .before .before .before .before .before .before .before .pre .1 .1 .1 ∙ sym (c .before .before .before .before .before .before .before .before .before .before .before .before .before .before .before .before .before .before .before .pre .1 .1 .0)))))
+paint-table-requires-2 c κs = (c .before .before .before .before .before .before .before .before .before .before .before .before .before .before .before .before .before .before .before .pre .0 .1, (omega (arith, c .before .before .before .before .before .before .before .before .before .before .before .before .before .before .before .before .before .before .before .pre .1 .0 .1), c .before .before .before .before .before .before .before .paint-table .kept .1 .1 .1 .0 ∙ (c .before .before .before .before .before .before .before .before .before .before .before .before .before .tiles-after .kept .1 .1 .1 .0 ∙ (c .before .before .before .before .before .before .before .before .before .before .before .before .before .before .before .before .before .before .before .pre .1 .1 .1 ∙ sym (c .before .before .before .before .before .before .before .before .before .before .before .before .before .before .before .before .before .before .before .pre .1 .1 .0)))))
 
 same-length-6 : tie.Need-same-length-6
 same-length-6 c = search needs
