@@ -1,24 +1,21 @@
--- What is covered: one square, a row, the zone of the area and what is beside it; and then the whole window.
-use Prim.Native.Nat.{ℕ, suc, _+_, _-_, _*_, _≤_, _<_, min, max}
+-- What is covered: one square, a row, and the zone of the area and what is beside it.
+use Prim.Native.Nat.{ℕ, _+_, _-_, _≤_, _<_, min}
 use native.Mathlib.Omega.{arith}
 use mathlib.Core.Path.{_≡_, sym, _∙_, ap, subst}
 use mathlib.Core.Logic.{⊎-elim}
 use mathlib.Core.List.{List}
 use lib.ListN.{length}
 use Rattle.plane.specs.declared.tile.Tile.{Tile}
-use Rattle.plane.specs.Picture.{Picture, tiles}
+use Rattle.plane.specs.Picture.{Picture}
 use Rattle.plane.specs.Strips.{Holds, Strip}
-use Rattle.plane.specs.Words.{count, height, pictureOf, tileOf, upTo, width}
-use Rattle.strips.specs.declared.brush.Brush.{Brush}
+use Rattle.plane.specs.Words.{tileOf}
 use Rattle.strips.specs.declared.cover.Spot.{Spot}
-use Rattle.strips.specs.Brush.{Given, Upward, goal}
-use Rattle.strips.specs.Cover.{AllUnder, Built, CoveredBy, Covers, CoversRow, CoversZone, Grown, Kept, RowUnder, SpotOf, Untouched, Working, above-it, left-of, right-of}
-use Rattle.strips.specs.Slots.{Has, Sought, WithTile}
+use Rattle.strips.specs.Brush.{Upward}
+use Rattle.strips.specs.Cover.{AllUnder, CoveredBy, Covers, CoversRow, CoversZone, Grown, RowUnder, SpotOf, Working}
+use Rattle.strips.specs.Slots.{Sought, WithTile}
 use Rattle.plane.proofs.Basics.{lt-or-ge}
-use Rattle.plane.proofs.Index.{mem-upTo, ordered-upTo, upTo-mem}
-use Rattle.plane.proofs.Tiling.{strip-one, strips-are-tiles, tiles-strips}
 use Rattle.strips.proofs.Grows.{grown-covered, grown-same, grown-then, grown-with, new-strip, not-all}
-use Rattle.strips.proofs.Stays.{after-agrees, agree-back, apart-strip, holds-at, kept-low, own-corner, strip-at}
+use Rattle.strips.proofs.Stays.{holds-at}
 
 -- ---- one square covered
 pub not-found : {ws : List ℕ} {n x y r : ℕ} → Sought ws 0 n x y r → n ≤ r → CoveredBy ws n x y → ⊥
@@ -28,14 +25,14 @@ module _ {w h : ℕ} {q : Picture} {ws : List ℕ} {n room x y m : ℕ} {s : Til
   pub covers-found : {i : ℕ} → m ≡ n → Sought ws 0 n x y i → i < n → s ≡ tileOf ws i → Covers w h q room ws n x y ws r
   covers-found {i} k F u o = record {
     full = λ v. absurd (omega (arith, C .few));
-    grown = λ v. subst (λ (c : ℕ). Grown w h q ws n ws c) (sym (e .count ∙ k)) (grown-same (C .part));
+    grown = λ v. subst (λ (c : ℕ). Grown w h q (y + 1) ws n ws c) (sym (e .count ∙ k)) (grown-same (C .part));
     here = λ v. (i, omega arith, F .held u, e .right ∙ ap (λ (t : Tile). t .right) o, e .top ∙ ap (λ (t : Tile). t .top) o);
   }
 
   pub covers-new : {vs : List ℕ} → m ≡ n + 1 → n < room → Strip w h q s → Holds s x y → WithTile ws vs n s → Covers w h q room ws n x y vs r
   covers-new {vs} k u S H W = record {
     full = λ v. absurd (omega arith);
-    grown = λ v. subst (λ (c : ℕ). Grown w h q ws n vs c) (sym (e .count ∙ k)) (grown-with (C .part) S W);
+    grown = λ v. subst (λ (c : ℕ). Grown w h q (y + 1) ws n vs c) (sym (e .count ∙ k)) (grown-with (C .part) S (omega (arith, H)) W);
     here = λ v. let d = W .new in (d .0, omega (arith, d .1), holds-at (d .2) H, e .right ∙ ap (λ (t : Tile). t .right) (sym (d .2)), e .top ∙ ap (λ (t : Tile). t .top) (sym (d .2)));
   }
 
@@ -54,7 +51,7 @@ cover-strip {x = x} C U f g = new-strip (C .part) U (λ o. f x (omega arith) (om
 -- ---- a row covered, from x up to the spot's right, and the rows above it up to the spot's top
 pub record RowSoFar (w h : ℕ) (q : Picture) (room : ℕ) (ws : List ℕ) (n x y : ℕ) (vs : List ℕ) (r : Spot) : Type 0 where
   pub few : r .count ≤ room
-  pub grown : Grown w h q ws n vs (r .count)
+  pub grown : Grown w h q (y + 1) ws n vs (r .count)
   pub on : x ≤ r .right
   pub up : y < r .top
   pub top : r .top ≤ h
@@ -64,7 +61,7 @@ module _ {w h : ℕ} {q : Picture} {room : ℕ} {ws : List ℕ} {n : ℕ} where
   pub row-none : {x y : ℕ} {r : Spot} → Working w h q ws n room → r .count ≡ n → r .right ≡ x → r .top ≡ h → y < h → RowSoFar w h q room ws n x y ws r
   row-none {x} {y} {r} C e f g o = record {
     few = omega (arith, C .few);
-    grown = subst (λ (m : ℕ). Grown w h q ws n ws m) (sym e) (grown-same (C .part));
+    grown = subst (λ (m : ℕ). Grown w h q (y + 1) ws n ws m) (sym e) (grown-same (C .part));
     on = omega arith;
     up = omega arith;
     top = omega arith;
@@ -79,7 +76,7 @@ module _ {w h : ℕ} {q : Picture} {room : ℕ} {ws : List ℕ} {n : ℕ} where
         let H = d .2 in
         record {
           few = k;
-          grown = grown-then (R .grown) G;
+          grown = grown-then (R .grown) G (omega arith);
           on = omega (arith, R .on);
           up = omega (arith, R .up);
           top = omega (arith, R .top);
@@ -116,83 +113,31 @@ module _ {w h : ℕ} {q : Picture} {room : ℕ} {ws : List ℕ} {n : ℕ} where
   pub row-under : {x e y : ℕ} {vs : List ℕ} {r : Spot} → RowSoFar w h q room ws n x y vs r → RowUnder ws n x e y → r .right < e → RowUnder vs (r .count) (r .right) (r .right + 1) y
   row-under {y = y} R f o i a b c = grown-covered (R .grown) i (y - 1) (f i (omega (arith, R .on)) (omega arith) c)
 
--- ---- the rows below y covered, from x up to e
-pub record ZoneSoFar (w h : ℕ) (q : Picture) (room : ℕ) (ws : List ℕ) (n x e y : ℕ) (vs : List ℕ) (m : ℕ) : Type 0 where
+-- ---- the rows below y covered, from x up to e, by strips that begin below f
+pub record ZoneSoFar (w h : ℕ) (q : Picture) (room : ℕ) (ws : List ℕ) (n x e f y : ℕ) (vs : List ℕ) (m : ℕ) : Type 0 where
   pub few : m ≤ room
-  pub grown : Grown w h q ws n vs m
+  pub grown : Grown w h q f ws n vs m
   pub zone : (i z : ℕ) → x ≤ i → i < e → z < y → CoveredBy vs m i z
 
-module _ {w h : ℕ} {q : Picture} {room : ℕ} {ws : List ℕ} {n x e : ℕ} where
-  pub zone-none : {y : ℕ} → Working w h q ws n room → AllUnder ws n w y → e ≤ w → ZoneSoFar w h q room ws n x e y ws n
-  zone-none C f o = record { few = C .few; grown = grown-same (C .part); zone = λ i z b c. f i z (omega arith) }
+module _ {w h : ℕ} {q : Picture} {room : ℕ} {ws : List ℕ} {n x e f : ℕ} where
+  pub zone-none : {y : ℕ} → Working w h q ws n room → AllUnder ws n w y → e ≤ w → ZoneSoFar w h q room ws n x e f y ws n
+  zone-none C g o = record { few = C .few; grown = grown-same (C .part); zone = λ i z b c. g i z (omega arith) }
 
-  pub zone-working : {y m : ℕ} {vs : List ℕ} → Working w h q ws n room → ZoneSoFar w h q room ws n x e y vs m → length vs ≡ length ws → Working w h q vs m room
+  pub zone-working : {y m : ℕ} {vs : List ℕ} → Working w h q ws n room → ZoneSoFar w h q room ws n x e f y vs m → length vs ≡ length ws → Working w h q vs m room
   zone-working C Z o = record { few = Z .few; long = omega (arith, C .long); part = Z .grown .part }
 
-  pub zone-under : {y m : ℕ} {vs : List ℕ} → ZoneSoFar w h q room ws n x e y vs m → RowUnder vs m x e y
+  pub zone-under : {y m : ℕ} {vs : List ℕ} → ZoneSoFar w h q room ws n x e f y vs m → RowUnder vs m x e y
   zone-under {y} Z i a b c = Z .zone i (y - 1) a b (omega arith)
 
-  pub zone-more : {y m : ℕ} {us vs : List ℕ} {r : Spot} → ZoneSoFar w h q room ws n x e y us m → CoversRow w h q room us m x e y vs r → r .count ≤ room → ZoneSoFar w h q room ws n x e (r .top) vs (r .count)
-  zone-more {y} Z C k = record {
+  pub zone-more : {y m : ℕ} {us vs : List ℕ} {r : Spot} → ZoneSoFar w h q room ws n x e f y us m → CoversRow w h q room us m x e y vs r → y < f → r .count ≤ room → ZoneSoFar w h q room ws n x e f (r .top) vs (r .count)
+  zone-more {y} Z C o k = record {
     few = k;
-    grown = grown-then (Z .grown) (C .grown k);
+    grown = grown-then (Z .grown) (C .grown k) (omega arith);
     zone = λ i z a b c. ⊎-elim (λ (v : z < y). grown-covered (C .grown k) i z (Z .zone i z a b v)) (λ (v : y ≤ z). C .row k i z a b v c) (lt-or-ge z y);
   }
 
-  pub zone-full : {y m x' e' f : ℕ} {us vs : List ℕ} {r : Spot} → CoversRow w h q room us m x e y vs r → room < r .count → CoversZone w h q room ws n x' e' f vs (r .count)
+  pub zone-full : {y m x' e' : ℕ} {us vs : List ℕ} {r : Spot} → CoversRow w h q room us m x e y vs r → room < r .count → CoversZone w h q room ws n x' e' f vs (r .count)
   zone-full C k = record { full = C .full; grown = λ v. absurd (omega arith); zone = λ v. absurd (omega arith) }
 
-  pub zone-done : {y m x' e' f : ℕ} {vs : List ℕ} → ZoneSoFar w h q room ws n x e y vs m → x ≤ x' → e' ≤ e → f ≤ y → CoversZone w h q room ws n x' e' f vs m
+  pub zone-done : {y m x' e' : ℕ} {vs : List ℕ} → ZoneSoFar w h q room ws n x e f y vs m → x ≤ x' → e' ≤ e → f ≤ y → CoversZone w h q room ws n x' e' f vs m
   zone-done Z a b c = record { full = λ v. absurd (omega (arith, Z .few)); grown = λ v. Z .grown; zone = λ v i z k l o. Z .zone i z (omega arith) (omega arith) (omega arith) }
-
--- ---- the area and what is beside it covered: all is
-module _ {ws us vs : List ℕ} {b : Brush} {k m : ℕ} (I : Given ws b) (K : Kept ws b us (count ws) k) (G : Grown (width ws) (height ws) (goal ws b) us k vs m)
-    (Z : (i z : ℕ) → b .x1 - 1 ≤ i → i < min (b .x2 + 1) (width ws) → z < min (b .y2 + 1) (height ws) → CoveredBy vs m i z) where
-  stays-in : {g : Tile} → Strip (width ws) (height ws) (goal ws b) g → Untouched g b → Has vs m g
-  stays-in {g} B A =
-      let S = apart-strip (agree-back b (after-agrees (pictureOf ws) b)) A B in
-      let d = I .shown .cover (g .left) (g .bottom) (omega (arith, B .box)) (omega (arith, B .box)) in
-      let e = strip-one (I .shown .each (d .0) (d .1)) S (g .left) (g .bottom) (d .2) (own-corner S) in
-      let r = K .apart (d .0) (d .1) (subst (λ (t : Tile). Untouched t b) (sym e) A) in
-      let s = G .keeps (r .0) (r .1) in
-      (s .0, s .1, s .2 ∙ (r .2 ∙ e))
-
-  is-in : {g : Tile} (x y : ℕ) → Strip (width ws) (height ws) (goal ws b) g → Holds g x y → CoveredBy vs m x y → Has vs m g
-  is-in x y B H r = (r .0, r .1, strip-one (G .part .each (r .0) (r .1)) B x y (r .2) H)
-
-  all-in : {g : Tile} → Strip (width ws) (height ws) (goal ws b) g → Has vs m g
-  all-in {g} B =
-      ⊎-elim (λ (u : g .bottom < b .y1). is-in (g .left) (g .bottom) B (own-corner B)
-      (grown-covered G (g .left) (g .bottom) (kept-low (I .shown) K (g .left) (g .bottom) (omega (arith, B .box)) (omega (arith, B .box)) u)))
-      (λ (u : b .y1 ≤ g .bottom). ⊎-elim (λ (v : b .y2 < g .bottom). stays-in B (above-it v))
-      (λ (v : g .bottom ≤ b .y2). ⊎-elim (λ (o : g .right < b .x1). stays-in B (left-of o))
-      (λ (o : b .x1 ≤ g .right). ⊎-elim (λ (c : b .x2 < g .left). stays-in B (right-of c))
-      (λ (c : g .left ≤ b .x2). is-in (max (g .left) (b .x1 - 1)) (g .bottom) B (omega (arith, B .box, I .brush))
-      (Z (max (g .left) (b .x1 - 1)) (g .bottom) (omega arith) (omega (arith, B .box, I .brush)) (omega (arith, B .box))))
-      (lt-or-ge (b .x2) (g .left)))
-      (lt-or-ge (g .right) (b .x1)))
-      (lt-or-ge (b .y2) (g .bottom)))
-      (lt-or-ge (g .bottom) (b .y1))
-
-  pub all-built : upTo m (tileOf vs) ≡ tiles (width ws) (height ws) (goal ws b)
-  all-built = strips-are-tiles (width ws) (height ws) (goal ws b) (upTo m (tileOf vs)) (record {
-    ordered = ordered-upTo m (tileOf vs) (λ i u. G .part .order i (suc i) (omega arith) u);
-    each = λ t e. let r = upTo-mem m (tileOf vs) e in strip-at (r .2) (G .part .each (r .0) (r .1));
-    cover = λ x y hx hy.
-        let T = tiles-strips (width ws) (height ws) (goal ws b) in
-        let d = T .cover x y hx hy in
-        let r = all-in (T .each (d .0) (d .1)) in
-        (tileOf vs (r .0), mem-upTo m (tileOf vs) (r .0) (r .1), holds-at (r .2) (d .2));
-  })
-
--- what keep leaves is what the zone's cover is handed
-pub kept-working : {ws us : List ℕ} {b : Brush} {k room : ℕ} → Kept ws b us (count ws) k → count ws ≤ room → 4 + 9 * room ≤ length us → Working (width ws) (height ws) (goal ws b) us k room
-kept-working K u v = record { few = omega (arith, K .few); long = v; part = K .part }
-
-pub kept-under : {ws us : List ℕ} {b : Brush} {k : ℕ} → Given ws b → Kept ws b us (count ws) k → AllUnder us k (width ws) (b .y1)
-kept-under I K i z u v = kept-low (I .shown) K i z u (omega (arith, I .brush)) v
-
-pub built : {ws us vs : List ℕ} {b : Brush} {k m room : ℕ} → Given ws b → Kept ws b us (count ws) k
-    → CoversZone (width ws) (height ws) (goal ws b) room us k (b .x1 - 1) (min (b .x2 + 1) (width ws)) (min (b .y2 + 1) (height ws)) vs m
-    → Built (width ws) (height ws) (goal ws b) room vs m
-built I K C = record { full = C .full; built = λ u. all-built I K (C .grown u) (C .zone u) }

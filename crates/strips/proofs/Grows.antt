@@ -11,7 +11,7 @@ use Rattle.plane.specs.Strips.{Holds, Ordered, Precedes, Run, Strip}
 use Rattle.plane.specs.Words.{tileOf, upTo}
 use Rattle.strips.specs.Brush.{Upward}
 use Rattle.strips.specs.Cover.{CoveredBy, Grown, Part}
-use Rattle.strips.specs.Slots.{Fresh, Sorted, WithTile}
+use Rattle.strips.specs.Slots.{Fresh, Has, Sorted, WithTile}
 use Rattle.plane.proofs.Basics.{lt-or-ge}
 use Rattle.plane.proofs.Index.{length-upTo, ordered-upTo, upTo-mem}
 use Rattle.plane.proofs.Lists.{precedes-not}
@@ -53,29 +53,37 @@ module _ {w h : ℕ} {q : Picture} {ws : List ℕ} {n : ℕ} (P : Part w h q ws 
       (lt-or-ge (b .bottom) (s .bottom))
 
   -- nothing more, and this strip more
-  pub grown-same : Grown w h q ws n ws n
-  grown-same = record { more = omega arith; part = P; keeps = λ i u. (i, u, refl) }
+  pub grown-same : {f : ℕ} → Grown w h q f ws n ws n
+  grown-same = record { more = omega arith; part = P; keeps = λ i u. (i, u, refl); only = λ i u. inr (i, u, refl) }
 
-  pub grown-with : {vs : List ℕ} {s : Tile} → Strip w h q s → WithTile ws vs n s → Grown w h q ws n vs (n + 1)
-  grown-with {vs} {s} S W = record {
+  pub grown-with : {vs : List ℕ} {f : ℕ} {s : Tile} → Strip w h q s → s .bottom < f → WithTile ws vs n s → Grown w h q f ws n vs (n + 1)
+  grown-with {vs} {f} {s} S o W = record {
     more = omega arith;
     part = record {
       each = λ j u. ⊎-elim (λ e. strip-at e S) (λ r. subst (λ (t : Tile). Strip w h q t) (r .2) (P .each (r .0) (r .1))) (W .only j u);
       order = W .order;
     };
     keeps = W .old;
+    only = λ j u. ⊎-elim (λ e. inl (subst (λ (t : Tile). t .bottom < f) (sym e) o)) (λ r. inr r) (W .only j u);
   }
 
--- growth upon growth, and what was covered stays so
-pub grown-then : {w h : ℕ} {q : Picture} {ws us vs : List ℕ} {n m k : ℕ} → Grown w h q ws n us m → Grown w h q us m vs k → Grown w h q ws n vs k
-grown-then A B = record {
+-- what is there stays, what is covered stays so, and growth upon growth, as high or lower
+pub grown-has : {w h : ℕ} {q : Picture} {f : ℕ} {ws vs : List ℕ} {n m : ℕ} → Grown w h q f ws n vs m → {t : Tile} → Has ws n t → Has vs m t
+grown-has A r = let s = A .keeps (r .0) (r .1) in (s .0, s .1, s .2 ∙ r .2)
+
+pub grown-covered : {w h : ℕ} {q : Picture} {f : ℕ} {ws vs : List ℕ} {n m : ℕ} → Grown w h q f ws n vs m → (x y : ℕ) → CoveredBy ws n x y → CoveredBy vs m x y
+grown-covered A x y r = let s = A .keeps (r .0) (r .1) in (s .0, s .1, holds-at (s .2) (r .2))
+
+pub grown-then : {w h : ℕ} {q : Picture} {f g : ℕ} {ws us vs : List ℕ} {n m k : ℕ} → Grown w h q f ws n us m → Grown w h q g us m vs k → g ≤ f → Grown w h q f ws n vs k
+grown-then {f = f} A B o = record {
   more = omega (arith, A .more, B .more);
   part = B .part;
-  keeps = λ i u. let r = A .keeps i u in let s = B .keeps (r .0) (r .1) in (s .0, s .1, s .2 ∙ r .2);
+  keeps = λ i u. grown-has B (A .keeps i u);
+  only = λ i u. ⊎-elim
+      (λ v. inl (omega arith))
+      (λ r. ⊎-elim (λ v. inl (subst (λ (t : Tile). t .bottom < f) (r .2) v)) (λ s. inr (s .0, s .1, s .2 ∙ r .2)) (A .only (r .0) (r .1)))
+      (B .only i u);
 }
-
-pub grown-covered : {w h : ℕ} {q : Picture} {ws vs : List ℕ} {n m : ℕ} → Grown w h q ws n vs m → (x y : ℕ) → CoveredBy ws n x y → CoveredBy vs m x y
-grown-covered A x y r = let s = A .keeps (r .0) (r .1) in (s .0, s .1, holds-at (s .2) (r .2))
 
 -- ---- how many
 -- an ordered list within another is no longer, and shorter if it lacks one

@@ -5,3 +5,4 @@ pub mod Spans
 pub mod Stays
 pub mod Grows
 pub mod Covers
+pub mod Builds

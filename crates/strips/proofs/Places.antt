@@ -92,7 +92,7 @@ module _ (ws : List ℕ) {n p : ℕ} (x y : ℕ) {s : Tile} (O : InOrderTo ws n)
   early : (j : ℕ) → Holds (tileOf ws j) x y → Precedes (tileOf ws j) s
   early j H = ⊎-elim (λ (a : tileOf ws j .bottom < y). inl (omega (arith, e .bottom))) (λ (a : y ≤ tileOf ws j .bottom). inr (omega (arith, H, e .bottom), omega (arith, H, e .left))) (lt-or-ge (tileOf ws j .bottom) y)
 
-  first-too : (j : ℕ) → j < n → p ≤ j → Precedes (tileOf ws j) s → Precedes (tileOf ws p) s
+  pub first-too : (j : ℕ) → j < n → p ≤ j → Precedes (tileOf ws j) s → Precedes (tileOf ws p) s
   first-too j o a q = ⊎-elim (λ (b : p < j). precedes-trans (tileOf ws p) (tileOf ws j) s (O p j b o) q) (λ (b : j ≤ p). let e : p ≡ j = omega arith in subst (λ (z : ℕ). Precedes (tileOf ws z) s) (sym e) q) (lt-or-ge p j)
 
   pub low-free : ((j : ℕ) → j < p → Holds (tileOf ws j) x y → ⊥) → Sought ws 0 n x y n

@@ -1,4 +1,4 @@
--- What stays: a strip of the picture before that the brush does not touch is a strip after, one that begins below it begins there after, and so the tiles that are kept cover all squares below the area.
+-- What stays: a strip of the picture before that the brush does not touch is a strip after, one that begins below it begins there after, and so the tiles that are kept cover all squares below the area. A tile's number tells whether it begins low.
 use Prim.Native.Nat.{ℕ, suc, _+_, _-_, _≤_, _<_}
 use native.Mathlib.Omega.{arith}
 use mathlib.Core.Path.{_≡_, sym, _∙_, ap, subst}
@@ -9,11 +9,12 @@ use Rattle.plane.specs.Picture.{Picture}
 use Rattle.plane.specs.Strips.{Holds, Precedes, Run, Strip}
 use Rattle.plane.specs.Words.{count, height, tileOf, width}
 use Rattle.strips.specs.declared.brush.Brush.{Brush}
-use Rattle.strips.specs.Brush.{Shown, Upward, after, brushTile, goal}
-use Rattle.strips.specs.Cover.{CoveredBy, Kept, Part, SameStart, Untouched, above-it, below-it, left-of, right-of}
-use Rattle.strips.specs.Slots.{Has, PutTile}
+use Rattle.strips.specs.Brush.{Given, Shown, Upward, after, brushTile, goal}
+use Rattle.strips.specs.Cover.{CoveredBy, Kept, LowTo, Part, SameStart, Untouched, above-it, below-it, left-of, right-of}
+use Rattle.strips.specs.Slots.{Has, Past, PlaceOf, PutTile}
 use Rattle.plane.proofs.Basics.{lt-or-ge}
 use Rattle.strips.proofs.Pieces.{after-out}
+use Rattle.strips.proofs.Places.{first-too}
 use Rattle.strips.proofs.Spans.{one-run}
 
 -- ---- two pictures that agree outside an area
@@ -166,18 +167,41 @@ kept-none ws b us = record {
   low = λ k u b. absurd (omega arith);
 }
 
--- every square below the area is covered
-pub kept-low : {ws us : List ℕ} {b : Brush} {m : ℕ} → Shown ws → Kept ws b us (count ws) m → (x y : ℕ) → x < width ws → y < height ws → y < b .y1 → CoveredBy us m x y
-kept-low {ws} {us} {b} {m} G K x y hx hy o =
+-- ---- the tiles of the table that begin low are those before the end of the row above the area
+pub low-to : {ws : List ℕ} (b : Brush) {n j : ℕ} {s : Tile} → Shown ws → Past (width ws) (b .y2) s → n ≡ count ws → PlaceOf ws n s j → LowTo ws b j
+low-to {ws} b {n} {j} {s} G e q P = record {
+  most = omega (arith, P .most);
+  low = λ i u. ⊎-elim (λ v. omega (arith, e .bottom)) (λ v. omega (arith, v .0, e .bottom)) (P .lower i u);
+  high = λ i u v. ⊎-elim
+      (λ (o : b .y2 < tileOf ws i .bottom). o)
+      (λ (o : tileOf ws i .bottom ≤ b .y2). absurd (P .after (omega arith) (first-too ws (width ws) (b .y2) (λ k l a c. G .order k l a (omega arith)) e P i (omega arith) u (before i v o))))
+      (lt-or-ge (b .y2) (tileOf ws i .bottom));
+}
+  where
+    before : (i : ℕ) → i < count ws → tileOf ws i .bottom ≤ b .y2 → Precedes (tileOf ws i) s
+    before i u o = ⊎-elim
+        (λ (v : tileOf ws i .bottom < b .y2). inl (omega (arith, e .bottom)))
+        (λ (v : b .y2 ≤ tileOf ws i .bottom). inr (omega (arith, e .bottom), omega (arith, e .left, G .each i u .box)))
+        (lt-or-ge (tileOf ws i .bottom) (b .y2))
+
+-- where a tile begins tells whether its number is one of these
+pub low-number : {ws : List ℕ} {b : Brush} {j : ℕ} → LowTo ws b j → (i : ℕ) → i < count ws → tileOf ws i .bottom ≤ b .y2 → i < j
+low-number {j = j} L i u o = ⊎-elim (λ (v : i < j). v) (λ (v : j ≤ i). absurd (omega (arith, L .high i v u))) (lt-or-ge i j)
+
+pub high-number : {ws : List ℕ} {b : Brush} {j : ℕ} → LowTo ws b j → (i : ℕ) → b .y2 < tileOf ws i .bottom → j ≤ i
+high-number {j = j} L i o = ⊎-elim (λ (v : i < j). absurd (omega (arith, L .low i v))) (λ (v : j ≤ i). v) (lt-or-ge i j)
+
+-- ---- every square below the area is covered
+pub kept-low : {ws us : List ℕ} {b : Brush} {j m : ℕ} → Given ws b → LowTo ws b j → Kept ws b us j m → (x y : ℕ) → x < width ws → y < height ws → y < b .y1 → CoveredBy us m x y
+kept-low {ws} {us} {b} {j} {m} I L K x y hx hy o =
+    let G = I .shown in
     let d = G .cover x y hx hy in
     let T = tileOf ws (d .0) in
     let S = G .each (d .0) (d .1) in
     let H = d .2 in
-    let r = K .low (d .0) (d .1) (omega (arith, H .from-bottom)) in
-    let U = tileOf us (r .0) in
+    let r = K .low (d .0) (low-number L (d .0) (d .1) (omega (arith, H .from-bottom, I .brush .area .some-y))) (omega (arith, H .from-bottom)) in
     let B = K .part .each (r .0) (r .1) in
-    let I = r .2 in
-    (r .0, r .1, reach S H B I o)
+    (r .0, r .1, reach S H B (r .2) o)
   where
     reach : {w h : ℕ} {p : Picture} {s u : Tile} → Strip w h p s → Holds s x y → Strip w h (after p b) u → Holds u (s .left) (s .bottom) → y < b .y1 → Holds u x y
     reach {w} {h} {p} {s} {u} S H B I o =

@@ -1,4 +1,4 @@
--- The words of a slice: one store, the five of a tile, and tiles moved up. No picture is named here.
+-- The words of a slice: one store, the five of a tile, tiles moved up, and tiles put behind others. No picture is named here.
 use Prim.Native.Nat.{ℕ, _+_, _*_, _≤_, _<_}
 use native.Mathlib.Omega.{arith}
 use mathlib.Core.Path.{_≡_, refl, sym, _∙_, ap}
@@ -8,7 +8,7 @@ use lib.ListN.{length, getD, set, length-set}
 use lib.Seq.{getD-set-same, getD-set-other}
 use Rattle.plane.specs.declared.tile.Tile.{Tile}
 use Rattle.plane.specs.Words.{tileOf}
-use Rattle.strips.specs.Slots.{PutTile, ShiftedUp}
+use Rattle.strips.specs.Slots.{Appended, PutTile, ShiftedUp}
 use Rattle.plane.proofs.Basics.{lt-or-ge}
 
 -- ---- one store
@@ -103,4 +103,39 @@ shift-more {i = i} S e r P = record {
       (λ (o : m ≤ i). let q : m ≡ i = omega arith in rw q (P .new ∙ (r ∙ S .kept i (omega arith))))
       (lt-or-ge i m);
   kept = λ m u. P .old m (λ q. omega arith) ∙ S .kept m (omega arith);
+}
+
+-- ---- tiles put behind others, word by word: the words of ws up to i stand at the words up to k
+pub record AppendedTo (ws : List ℕ) (j n : ℕ) (us : List ℕ) (m : ℕ) (vs : List ℕ) (i k : ℕ) : Type 0 where
+  pub long : length vs ≡ length us
+  pub begun : 4 + 9 * j ≤ i
+  pub most : i ≤ 4 + 9 * n
+  pub place : k + 9 * j ≡ i + 9 * m
+  pub new : (p : ℕ) → 4 + 9 * j + p < i → getD vs (4 + 9 * m + p) 0 ≡ getD ws (4 + 9 * j + p) 0
+  pub old : (p : ℕ) → p < 4 + 9 * m → getD vs p 0 ≡ getD us p 0
+
+pub append-none : (ws us : List ℕ) {j n : ℕ} (m : ℕ) → j ≤ n → AppendedTo ws j n us m us (4 + 9 * j) (4 + 9 * m)
+append-none ws us m u = record { long = refl; begun = omega arith; most = omega arith; place = omega arith; new = λ p v. absurd (omega arith); old = λ p v. refl }
+
+pub append-more : {ws us vs : List ℕ} {j n m i k : ℕ} → AppendedTo ws j n us m vs i k → i < 4 + 9 * n → k < length vs → AppendedTo ws j n us m (set vs k (getD ws i 0)) (i + 1) (k + 1)
+append-more {ws} {us} {vs} {j} {n} {m} {i} {k} A u h = record {
+  long = length-set vs k (getD ws i 0) ∙ A .long;
+  begun = omega (arith, A .begun);
+  most = omega arith;
+  place = omega (arith, A .place);
+  new = λ p v. ⊎-elim
+      (λ (o : 4 + 9 * j + p < i). store-miss vs k (4 + 9 * m + p) _ (λ e. omega (arith, A .place)) ∙ A .new p o)
+      (λ (o : i ≤ 4 + 9 * j + p). let e : i ≡ 4 + 9 * j + p = omega arith in store-hit vs k (4 + 9 * m + p) _ (omega (arith, A .place)) h ∙ ap (λ (z : ℕ). getD ws z 0) e)
+      (lt-or-ge (4 + 9 * j + p) i);
+  old = λ p v. store-miss vs k p _ (λ e. omega (arith, A .place, A .begun)) ∙ A .old p v;
+}
+
+pub append-done : {ws us vs : List ℕ} {j n m i k : ℕ} → AppendedTo ws j n us m vs i k → 4 + 9 * n ≤ i → Appended ws j n us m vs
+append-done {ws} {us} {vs} {j} {n} {m} A u = record {
+  long = A .long;
+  new = λ i v. tile-agree vs ws (m + i) (j + i) (λ k o.
+      let d : 4 + 9 * (m + i) + k ≡ 4 + 9 * m + (9 * i + k) = omega arith in
+      let e : 4 + 9 * j + (9 * i + k) ≡ 4 + 9 * (j + i) + k = omega arith in
+      ap (λ (z : ℕ). getD vs z 0) d ∙ (A .new (9 * i + k) (omega arith) ∙ ap (λ (z : ℕ). getD ws z 0) e));
+  old = λ i v. tile-agree vs us i i (λ k o. A .old (4 + 9 * i + k) (omega arith));
 }

@@ -1,12 +1,13 @@
 -- The rebuild: the tiles that are kept, and how the working slice comes to cover the window.
 use Prim.Native.Nat.{ℕ, _+_, _-_, _*_, _≤_, _<_}
 use mathlib.Core.Path.{_≡_}
+use mathlib.Core.Logic.{_⊎_}
 use mathlib.Core.List.{List}
 use lib.ListN.{length}
 use Rattle.plane.specs.declared.tile.Tile.{Tile}
 use Rattle.plane.specs.Picture.{Picture, tiles}
 use Rattle.plane.specs.Strips.{Strip, Holds}
-use Rattle.plane.specs.Words.{width, height, tileOf, upTo}
+use Rattle.plane.specs.Words.{count, width, height, tileOf, upTo}
 use Rattle.strips.specs.declared.brush.Brush.{Brush}
 use Rattle.strips.specs.declared.cover.Spot.{Spot}
 use Rattle.strips.specs.Slots.{InOrderTo, Has}
@@ -20,6 +21,12 @@ pub data Untouched (t : Tile) (b : Brush) : Type 0 where
   right-of : b .x2 < t .left → Untouched t b
   below-it : t .top < b .y1 → Untouched t b
   above-it : b .y2 < t .bottom → Untouched t b
+
+-- the first j tiles of the table begin in the row above the area or lower, the others higher
+pub record LowTo (ws : List ℕ) (b : Brush) (j : ℕ) : Type 0 where
+  pub most : j ≤ count ws
+  pub low : (i : ℕ) → i < j → tileOf ws i .bottom ≤ b .y2
+  pub high : (i : ℕ) → j ≤ i → i < count ws → b .y2 < tileOf ws i .bottom
 
 -- the two begin at one square
 pub record SameStart (s t : Tile) : Type 0 where
@@ -45,11 +52,12 @@ pub record Kept (ws : List ℕ) (b : Brush) (us : List ℕ) (i m : ℕ) : Type 0
 
 -- ---- the squares that are covered
 
--- the first m tiles of vs are strips, and those of ws are among them
-pub record Grown (w h : ℕ) (q : Picture) (ws : List ℕ) (n : ℕ) (vs : List ℕ) (m : ℕ) : Type 0 where
+-- the first m tiles of vs are strips: those of ws, and others that begin below row f
+pub record Grown (w h : ℕ) (q : Picture) (f : ℕ) (ws : List ℕ) (n : ℕ) (vs : List ℕ) (m : ℕ) : Type 0 where
   pub more : n ≤ m
   pub part : Part w h q vs m
   pub keeps : (i : ℕ) → i < n → Has vs m (tileOf ws i)
+  pub only : (i : ℕ) → i < m → (tileOf vs i .bottom < f) ⊎ Has ws n (tileOf vs i)
 
 -- a working slice of this room with n strips
 pub record Working (w h : ℕ) (q : Picture) (ws : List ℕ) (n room : ℕ) : Type 0 where
@@ -82,13 +90,13 @@ HeldTo ws n x y right top = (j : ℕ) × (j < n) × Holds (tileOf ws j) x y × (
 -- (x,y) is covered; a count above the room says that the strips are more than the room
 pub record Covers (w h : ℕ) (q : Picture) (room : ℕ) (ws : List ℕ) (n x y : ℕ) (vs : List ℕ) (r : Spot) : Type 0 where
   pub full : room < r .count → TooMany w h q room
-  pub grown : r .count ≤ room → Grown w h q ws n vs (r .count)
+  pub grown : r .count ≤ room → Grown w h q (y + 1) ws n vs (r .count)
   pub here : r .count ≤ room → HeldTo vs (r .count) x y (r .right) (r .top)
 
 -- the squares x .. e-1 of the rows y .. top-1 are covered
 pub record CoversRow (w h : ℕ) (q : Picture) (room : ℕ) (ws : List ℕ) (n x e y : ℕ) (vs : List ℕ) (r : Spot) : Type 0 where
   pub full : room < r .count → TooMany w h q room
-  pub grown : r .count ≤ room → Grown w h q ws n vs (r .count)
+  pub grown : r .count ≤ room → Grown w h q (y + 1) ws n vs (r .count)
   pub up : y < r .top
   pub top : r .top ≤ h
   pub row : r .count ≤ room → (i z : ℕ) → x ≤ i → i < e → y ≤ z → z < r .top → CoveredBy vs (r .count) i z
@@ -96,7 +104,7 @@ pub record CoversRow (w h : ℕ) (q : Picture) (room : ℕ) (ws : List ℕ) (n x
 -- the squares x .. e-1 of the rows below f are covered
 pub record CoversZone (w h : ℕ) (q : Picture) (room : ℕ) (ws : List ℕ) (n x e f : ℕ) (vs : List ℕ) (m : ℕ) : Type 0 where
   pub full : room < m → TooMany w h q room
-  pub grown : m ≤ room → Grown w h q ws n vs m
+  pub grown : m ≤ room → Grown w h q f ws n vs m
   pub zone : m ≤ room → (i z : ℕ) → x ≤ i → i < e → z < f → CoveredBy vs m i z
 
 -- the tiles are all the strips, or they are more than the room

@@ -34,6 +34,12 @@ pub record ShiftedUp (ws vs : List ℕ) (e f : ℕ) : Type 0 where
   pub moved : (j : ℕ) → e ≤ j → j < f → tileOf vs (j + 1) ≡ tileOf ws j
   pub kept : (j : ℕ) → j ≤ e → tileOf vs j ≡ tileOf ws j
 
+-- the tiles of ws from j to n - 1 stand behind the first m, and those stay
+pub record Appended (ws : List ℕ) (j n : ℕ) (us : List ℕ) (m : ℕ) (vs : List ℕ) : Type 0 where
+  pub long : length vs ≡ length us
+  pub new : (i : ℕ) → j + i < n → tileOf vs (m + i) ≡ tileOf ws (j + i)
+  pub old : (i : ℕ) → i < m → tileOf vs i ≡ tileOf us i
+
 -- t is none of the first n tiles, by its lower left corner
 abbrev pub Fresh : List ℕ → ℕ → Tile → Type 0
 Fresh ws n t = (i : ℕ) → i < n → Precedes (tileOf ws i) t ⊎ Precedes t (tileOf ws i)

@@ -1,9 +1,13 @@
-// The rebuild, by covering: the tiles that the area does not touch and those that begin below it are kept, and then every square in and
-// beside the area that no tile holds has its strip put in. Where there are more strips than room, a count above the room says so.
+// The rebuild, by covering: of the tiles that begin in the row above the area or lower, those that the area does not touch and those that
+// begin below it are kept; then every square in and beside the area that no tile holds has its strip put in; and the tiles that begin
+// higher, which come after all these, are put behind. Where there are more strips than room, a count above the room says so.
 use crate::brush::Brush;
 use crate::runs::strip_at;
+use crate::slots::append;
 use crate::slots::find_low;
 use crate::slots::insert;
+use crate::slots::past;
+use crate::slots::place_of;
 use crate::slots::put_tile;
 use crate::slots::under;
 use plane::find::seek;
@@ -17,7 +21,7 @@ ghost use Prim.Native.Nat.{_+_, _*_, _-_, _<_, _≤_, min};
 ghost use lib.ListN.{length};
 ghost use Rattle.plane.specs.Words.{count, width, height, Says};
 ghost use Rattle.strips.specs.Brush.{Given, Near, goal};
-ghost use Rattle.strips.specs.Cover.{SpotOf, Untouched, Kept, Working, RowUnder, AllUnder, Covers, CoversRow, CoversZone, Built};
+ghost use Rattle.strips.specs.Cover.{SpotOf, Untouched, LowTo, Kept, Working, RowUnder, AllUnder, Covers, CoversRow, CoversZone, Built};
 
 // A number of tiles, and the right end and the top of one of them.
 pub struct Spot {
@@ -56,6 +60,15 @@ pub fn is_apart(t: Tile, b: Brush) -> bool
     false
 }
 
+// How many tiles of t begin in the row above the area or lower.
+pub fn low_tiles(t: &[u16], b: Brush) -> u16
+    requires { ⌜ Given (now t) b ⌝ }
+    ensures { λ r. ⌜ LowTo (now (t .entry)) b r ⌝ }
+{
+    let s = past(t[1], b.y2);
+    place_of(t, wide(t[0]), s) as u16
+}
+
 // Tile i of t, put behind the m tiles of the working slice if it stays or begins below the area.
 pub fn keep_one(t: &[u16], b: Brush, work: &mut [u16], m: usize, i: u16) -> usize
     requires { ⌜ Given (now t) b ⌝ }
@@ -76,13 +89,12 @@ pub fn keep_one(t: &[u16], b: Brush, work: &mut [u16], m: usize, i: u16) -> usiz
     m
 }
 
-// Those tiles of t that stay or begin below the area, put into the working slice, and how many.
-pub fn keep(t: &[u16], b: Brush, work: &mut [u16]) -> usize
+// Those of the first n tiles of t that stay or begin below the area, put into the working slice, and how many.
+pub fn keep(t: &[u16], b: Brush, work: &mut [u16], n: u16) -> usize
     requires { ⌜ Given (now t) b ⌝ }
-    requires { ⌜ length (now work) ≡ length (now t) ⌝ }
-    ensures { λ r. ⌜ Kept (now (t .entry)) b (now (work .exit)) (count (now (t .entry))) r ⌝ }
+    requires { ⌜ (n ≤ count (now t)) × (length (now work) ≡ length (now t)) ⌝ }
+    ensures { λ r. ⌜ Kept (now (t .entry)) b (now (work .exit)) n r ⌝ }
 {
-    let n = t[0];
     let mut m = 0;
     let mut i = 0;
     while i < n {
@@ -192,6 +204,18 @@ pub fn rebuild(t: &[u16], b: Brush, work: &mut [u16], room: usize) -> usize
     requires { ⌜ (length (now work) ≡ length (now t)) × (4 + 9 * room ≤ length (now t)) × (count (now t) ≤ room) ⌝ }
     ensures { λ r. ⌜ Built (width (now (t .entry))) (height (now (t .entry))) (goal (now (t .entry)) b) room (now (work .exit)) r ⌝ }
 {
-    let n = keep(t, b, work);
-    cover_zone(t, b, work, n, room)
+    let n = wide(t[0]);
+    let low = low_tiles(t, b);
+    let k = keep(t, b, work, low);
+    let m = cover_zone(t, b, work, k, room);
+    if room < m {
+        return m;
+    }
+    let j = wide(low);
+    let r = m + (n - j);
+    if room < r {
+        return r;
+    }
+    append(t, j, n, work, m);
+    r
 }

@@ -3,10 +3,10 @@ use plane::tile::Tile;
 use plane::tile::holds;
 use plane::tile::precedes;
 use plane::words::nth_tile;
-ghost use Prim.Native.Nat.{_+_, _*_, _<_, _≤_};
+ghost use Prim.Native.Nat.{_+_, _-_, _*_, _<_, _≤_};
 ghost use lib.ListN.{length};
 ghost use Rattle.plane.specs.Words.{Says};
-ghost use Rattle.strips.specs.Slots.{InOrderTo, PutTile, PlaceOf, ShiftedUp, Fresh, WithTile, Sought, Holder, Under, Past, Sorted};
+ghost use Rattle.strips.specs.Slots.{InOrderTo, PutTile, PlaceOf, ShiftedUp, Appended, Fresh, WithTile, Sought, Holder, Under, Past, Sorted};
 
 // Sets tile i to t.
 pub fn put_tile(work: &mut [u16], i: usize, t: Tile)
@@ -49,6 +49,21 @@ pub fn shift(work: &mut [u16], from: usize, to: usize)
     while from < j {
         j -= 1;
         put_tile(work, j + 1, nth_tile(work, j));
+    }
+}
+
+// Puts the tiles j .. n-1 of t behind the first m, word by word.
+pub fn append(t: &[u16], j: usize, n: usize, work: &mut [u16], m: usize)
+    requires { ⌜ (j ≤ n) × (4 + 9 * n ≤ length (now t)) × (4 + 9 * (m + (n - j)) ≤ length (now work)) ⌝ }
+    ensures { λ _. ⌜ Appended (now (t .entry)) j n (now (work .entry)) m (now (work .exit)) ⌝ }
+{
+    let end = 4 + 9 * n;
+    let mut i = 4 + 9 * j;
+    let mut k = 4 + 9 * m;
+    while i < end {
+        work[k] = t[i];
+        i += 1;
+        k += 1;
     }
 }
 

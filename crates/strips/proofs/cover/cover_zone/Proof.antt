@@ -1,5 +1,5 @@
 -- The rows covered so far: `ZoneSoFar`.
-use Prim.Native.Nat.{_-_, _<_}
+use Prim.Native.Nat.{_+_, _-_, _<_, min}
 use native.Mathlib.Omega.{arith}
 use mathlib.Core.Path.{_≡_, refl, _∙_}
 use lib.ListN.{length}
@@ -11,7 +11,7 @@ use Rattle.strips.proofs.cover.cover_zone.Statement.{statement}
 use Rattle.strips.proofs.cover.cover_zone.Tie as tie
 
 abbrev Inv-loop : tie.InvT-loop
-Inv-loop t b work₀ n room x e f m₀ y₀ i₀ work m y i = (length work ≡ length work₀) × (i < count t) × ZoneSoFar (width t) (height t) (goal t b) room work₀ n x e y work m
+Inv-loop t b work₀ n room x e f m₀ y₀ i₀ work m y i = (length work ≡ length work₀) × (i < count t) × ZoneSoFar (width t) (height t) (goal t b) room work₀ n x e (min (b .y2 + 1) (height t)) y work m
 
 abbrev μ-loop : tie.MeasureT-loop
 μ-loop t b work₀ n room x e f m₀ y₀ i₀ work m y i = f - y
@@ -56,7 +56,7 @@ loop-less : tie.Need-loop-less Inv-loop μ-loop
 loop-less c = omega (arith, c .before .before .before .before .before .before .loop-test .taken, c .before .before .before .cover-row .ensures .up)
 
 loop-again : tie.Need-loop-again Inv-loop μ-loop
-loop-again c = (c .before .before .before .cover-row .kept .1 .1 .0 ∙ c .before .before .before .before .before .before .before .loop .inv .0, c .before .before .before .before .before .seek .ensures .counted, zone-more (c .before .before .before .before .before .before .before .loop .inv .2) (c .before .before .before .cover-row .ensures) (c .if1 .left))
+loop-again c = (c .before .before .before .cover-row .kept .1 .1 .0 ∙ c .before .before .before .before .before .before .before .loop .inv .0, c .before .before .before .before .before .seek .ensures .counted, zone-more (c .before .before .before .before .before .before .before .loop .inv .2) (c .before .before .before .cover-row .ensures) (omega (arith, c .before .before .before .before .before .before .before .before .least2 .ensures, c .before .before .before .before .before .before .loop-test .taken)) (c .if1 .left))
 
 same-length-2 : tie.Need-same-length-2 Inv-loop μ-loop
 same-length-2 c = c .before .loop .inv .0
