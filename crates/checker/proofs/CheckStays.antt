@@ -10,8 +10,8 @@ use Rattle.rules.specs.Words.{haloOf, rulesOf}
 use Rattle.piece.specs.declared.waits.Block.{Block}
 use Rattle.piece.specs.declared.waits.Block.the-variants.{At, Nothing}
 use Rattle.checker.specs.Check.{CheckLeft, Checked, Run, afterBlock, checkRefusals, checkRun, fitsBlock, lowestOf, ranCheck, refusedCheck, turn}
-use Rattle.checker.specs.Layout.{Layout, SoundLayout}
-use Rattle.checker.specs.Ready.{Fit}
+use Rattle.sheet.specs.Layout.{Layout, SoundLayout}
+use Rattle.sheet.specs.Ready.{Fit}
 use Rattle.checker.proofs.Checkings.{passed-fit}
 use Rattle.checker.proofs.Runs.{Keeps, piece-fit, run-idle, run-keeps}
 

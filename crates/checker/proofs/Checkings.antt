@@ -7,13 +7,13 @@ use mathlib.Core.List.{List}
 use lib.ListN.{length}
 use Rattle.plane.specs.Refusal.{Lowest}
 use Rattle.plane.proofs.Lowests.{all-hold}
-use Rattle.checker.specs.declared.shape.Tested.{Tested}
-use Rattle.checker.specs.declared.shape.Tested.the-variants as tested
-use Rattle.checker.specs.Answers.{readyNumber, readyPlace}
+use Rattle.sheet.specs.declared.shape.Tested.{Tested}
+use Rattle.sheet.specs.declared.shape.Tested.the-variants as tested
+use Rattle.sheet.specs.Answers.{readyNumber, readyPlace}
 use Rattle.checker.specs.Check.{checkRefusals}
 use Rattle.checker.specs.CheckSteps.{CheckTested, CheckedBut, RanPieces, Runs}
-use Rattle.checker.specs.Layout.{Layout}
-use Rattle.checker.specs.Ready.{Fit, Readied, readyRefusals}
+use Rattle.sheet.specs.Layout.{Layout}
+use Rattle.sheet.specs.Ready.{Fit, Readied, readyRefusals}
 
 module _ {l : Layout} {work rules : List ℕ} {used : ℕ} where
   -- ---- the tests

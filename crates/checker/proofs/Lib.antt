@@ -1,10 +1,4 @@
--- The laws of the checker, each file named after its subject.
-pub mod Shapes
-pub mod Creates
-pub mod Paints
-pub mod Reports
-pub mod Stays
-pub mod Shows
+-- The laws of check, each file named after its subject.
 pub mod MarkErrors
 pub mod OnePiece
 pub mod Turns

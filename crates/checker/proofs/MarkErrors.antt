@@ -31,8 +31,8 @@ use Rattle.piece.specs.Rows.{PieceRows, NoMarks}
 use Rattle.piece.proofs.Calms.{calm-free}
 use Rattle.piece.proofs.Remarks.{block-in, halo-in, near-in, near-same, near-small, rules-near, stamped-piece, unmarked-piece}
 use Rattle.checker.specs.CheckSteps.{MarkIn, NothingMarked, Remade, errorsNear}
-use Rattle.checker.proofs.Paints.{made, paintable-room}
-use Rattle.checker.proofs.Shapes.{marks-area}
+use Rattle.sheet.proofs.Paints.{made, paintable-room}
+use Rattle.sheet.proofs.Shapes.{marks-area}
 
 -- ---- an area without a type
 -- a sum that is 0 has no other term

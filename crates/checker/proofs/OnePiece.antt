@@ -25,11 +25,11 @@ use Rattle.piece.specs.Remark.{BlockIn, nearArea, nearBlock, remarked}
 use Rattle.piece.proofs.Remarks.{near-in}
 use Rattle.checker.specs.Check.{checkedPiece, pieceErrors, pieceFits, pieceWaiting}
 use Rattle.checker.specs.CheckSteps.{MarkIn, PieceIn, PieceTried, Remade}
-use Rattle.checker.specs.Layout.{Layout, Marks, lent, room}
-use Rattle.checker.specs.Ready.{Fit}
+use Rattle.sheet.specs.Layout.{Layout, Marks, lent, room}
+use Rattle.sheet.specs.Ready.{Fit}
 use Rattle.checker.proofs.MarkErrors.{piece-block}
-use Rattle.checker.proofs.Shapes.{marks-area}
-use Rattle.checker.proofs.Shows.{made-shows}
+use Rattle.sheet.proofs.Shapes.{marks-area}
+use Rattle.sheet.proofs.Shows.{made-shows}
 
 -- ---- tables and pictures
 -- marks of another picture of their window, if it has room

@@ -26,10 +26,10 @@ use Rattle.piece.proofs.SweptRows.{idle-in-row, lowest-same, rows-below, swept-
 use Rattle.piece.proofs.Sweeps.{sweep-adds}
 use Rattle.checker.specs.Check.{lowestOf, pieceWaiting}
 use Rattle.checker.specs.CheckSteps.{Came, MarkIn, PieceIn, Remade, RowMarked, TurnIn, Turned, errorsNear, sweptTo, sweptWaiting}
-use Rattle.checker.specs.Layout.{Layout, lent, room}
+use Rattle.sheet.specs.Layout.{Layout, lent, room}
 use Rattle.checker.proofs.MarkErrors.{count-tiles, like-agree}
 use Rattle.checker.proofs.OnePiece.{in-window, piece-marks, piece-tried, piece-unmarked, waiting-area}
-use Rattle.checker.proofs.Shows.{made-shows}
+use Rattle.sheet.proofs.Shows.{made-shows}
 use Rattle.checker.proofs.Turns.{came-none, came-nowhere, lowest-piece, turn-done, turn-full, turned-join, turned-so-far}
 
 -- ---- tables and pictures

@@ -17,8 +17,8 @@ use Rattle.piece.proofs.Blocks.{lowest-block}
 use Rattle.piece.proofs.Counts.{cleared-pieces, no-pieces}
 use Rattle.checker.specs.Check.{Run, afterBlock, checkRun, checkedPiece, fitsBlock, lowestOf, pieceFits, pieceWaiting, turn, waitingOf}
 use Rattle.checker.specs.CheckSteps.{PieceIn}
-use Rattle.checker.specs.Layout.{Layout}
-use Rattle.checker.specs.Ready.{Fit}
+use Rattle.sheet.specs.Layout.{Layout}
+use Rattle.sheet.specs.Ready.{Fit}
 use Rattle.checker.proofs.OnePiece.{checked-fit, waiting-show}
 use Rattle.checker.proofs.Turns.{lowest-piece}
 

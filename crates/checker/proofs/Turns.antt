@@ -16,8 +16,8 @@ use Rattle.piece.proofs.Blocks.{lowest-block}
 use Rattle.checker.specs.declared.check.Ran.{Ran}
 use Rattle.checker.specs.Check.{CheckLeft, Run, afterBlock, checkRun, checkedPiece, fitsBlock, lowestOf, pieceFits, ranCheck, turn}
 use Rattle.checker.specs.CheckSteps.{Came, OverAt, PieceIn, PieceTried, RanPieces, RanTo, Turned, more}
-use Rattle.checker.specs.Layout.{Layout}
-use Rattle.checker.specs.Ready.{Fit}
+use Rattle.sheet.specs.Layout.{Layout}
+use Rattle.sheet.specs.Ready.{Fit}
 use Rattle.checker.proofs.OnePiece.{checked-fit}
 use lib.ListN.{length}
 

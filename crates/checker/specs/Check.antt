@@ -16,7 +16,7 @@ use Rattle.piece.specs.declared.waits.Block.{Block}
 use Rattle.piece.specs.declared.waits.Block.the-variants.{At, Nothing}
 use Rattle.piece.specs.Pieces.{lowestBlock, waitingPieces}
 use Rattle.piece.specs.Remark.{remarked, nearArea}
-use Rattle.checker.specs.Layout.{Layout, room, WorkLength, IsLayout}
+use Rattle.sheet.specs.Layout.{Layout, room, WorkLength, IsLayout}
 
 -- ---- one piece, the block at column bx, row by, for rules rs with halo k
 -- the errors afterwards: the full check's mark within the halo of the block, and the old mark elsewhere

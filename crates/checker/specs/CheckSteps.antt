@@ -20,8 +20,8 @@ use Rattle.piece.specs.Rows.{NoMarks}
 use Rattle.piece.specs.Sweep.{swept}
 use Rattle.checker.specs.declared.check.Ran.{Ran}
 use Rattle.checker.specs.Check.{Run, stopped, checkRun, lowestOf, ranCheck, checkedPiece, pieceFits, checkRefusals, Checked}
-use Rattle.checker.specs.Layout.{Layout, Marks, lent}
-use Rattle.checker.specs.Ready.{Fit}
+use Rattle.sheet.specs.Layout.{Layout, Marks, lent}
+use Rattle.sheet.specs.Ready.{Fit}
 
 -- a layout and rules that passed their test, and a working room as long
 pub record Runs (l : Layout) (work rules : List ℕ) (used : ℕ) : Type 0 where

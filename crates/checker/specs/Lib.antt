@@ -1,10 +1,4 @@
--- What the contracts of the checker cite: layouts, what each call makes, and when it says no.
-pub mod Layout
-pub mod Ready
-pub mod Create
-pub mod Paint
+-- What the contracts of check cite: what a check promises, and what its inner functions promise one another.
 pub mod Check
 pub mod CheckSteps
-pub mod Report
 pub mod Answers
-pub mod Steps

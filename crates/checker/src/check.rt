@@ -1,6 +1,4 @@
 // Check: the lowest waiting piece, as often as told or until none waits.
-use crate::shape::Tested;
-use crate::shape::ready;
 use paint::table::clear;
 use paint::table::paint_table;
 use paint::table::stamp_table;
@@ -19,6 +17,8 @@ use plane::tile::Area;
 use plane::words::room_in;
 use plane::words::wide;
 use rules::list::halo_of;
+use sheet::shape::Tested;
+use sheet::shape::ready;
 ghost use mathlib.Core.Bool.{true};
 ghost use mathlib.Core.Path.{_≡_};
 ghost use Prim.Native.Nat.{_+_, _-_, _≤_};
@@ -33,8 +33,8 @@ ghost use Rattle.rules.specs.Words.{rulesOf};
 ghost use Rattle.piece.specs.Remark.{BlockIn, Checkable};
 ghost use Rattle.piece.specs.Rows.{PieceRows};
 ghost use Rattle.piece.specs.Sweep.{sweptArea};
-ghost use Rattle.checker.specs.Answers.{readyNumber, readyPlace};
-ghost use Rattle.checker.specs.Layout.{lent};
+ghost use Rattle.sheet.specs.Answers.{readyNumber, readyPlace};
+ghost use Rattle.sheet.specs.Layout.{lent};
 ghost use Rattle.checker.specs.Check.{Checked};
 ghost use Rattle.checker.specs.Answers.{checkNumber, checkPlace, checkDone, checkLeft};
 ghost use Rattle.checker.specs.CheckSteps.{Runs, NothingMarked, Remade, MarkIn, errorsNear, PieceIn, PieceTried, TurnIn, Turned, RowMarked, RanTo, RanPieces, CheckTested, CheckedBut};

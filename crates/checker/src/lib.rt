@@ -1,6 +1,2 @@
-// A layout of three tables, material, errors and waiting: made, painted, checked and reported on.
+// Check: the waiting pieces of a layout, row by row.
 pub mod check;
-pub mod create;
-pub mod painting;
-pub mod report;
-pub mod shape;

@@ -5,7 +5,7 @@ use mathlib.Core.Path.{_≡_, refl, sym, ap, subst}
 use mathlib.Core.List.{List, [], _∷_}
 use types.Run.{OneOf, miss}
 use denote.Enum.Declared.{tagOf}
-use Rattle.checker.specs.Layout.{Layout}
+use Rattle.sheet.specs.Layout.{Layout}
 use Rattle.commands.proofs.command.Command as Tags
 use Rattle.commands.specs.declared.command.Command.{Command}
 use Rattle.commands.specs.declared.command.Command.the-variants.{New, Rule, Width, Spacing, Paint, Check, Report, Nothing}

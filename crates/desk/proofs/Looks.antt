@@ -18,15 +18,16 @@ use Rattle.plane.specs.Words.{count, width, height, kinds, roomIn, tileOf}
 use Rattle.rules.specs.Vetting.{AllSound}
 use Rattle.rules.specs.Words.{rulesOf, haloOf}
 use Rattle.checker.specs.declared.check.CheckAnswer.{CheckAnswer}
-use Rattle.checker.specs.declared.report.ReportAnswer.{ReportAnswer}
-use Rattle.checker.specs.declared.report.ReportAnswer.the-variants.{Found, Lengths, NoTable, BadRule, NoPlace, Full}
-use Rattle.checker.specs.Answers.{checkNumber, checkPlace, checkDone, checkLeft, reportNumber, foundBy}
+use Rattle.sheet.specs.declared.report.ReportAnswer.{ReportAnswer}
+use Rattle.sheet.specs.declared.report.ReportAnswer.the-variants.{Found, Lengths, NoTable, BadRule, NoPlace, Full}
+use Rattle.sheet.specs.Answers.{reportNumber, foundBy}
+use Rattle.checker.specs.Answers.{checkNumber, checkPlace, checkDone, checkLeft}
 use Rattle.checker.specs.Check.{CheckLeft, CheckLength, Checked, checkRun, ranCheck, refusedCheck}
-use Rattle.checker.specs.Layout.{Layout, RuleLength, IsLayout}
-use Rattle.checker.specs.Ready.{Fit}
-use Rattle.checker.specs.Report.{Findings, Reported, findings}
+use Rattle.sheet.specs.Layout.{Layout, RuleLength, IsLayout}
+use Rattle.sheet.specs.Ready.{Fit}
+use Rattle.sheet.specs.Report.{Findings, Reported, findings}
 use Rattle.checker.proofs.CheckStays.{run-fit}
-use Rattle.checker.proofs.report.ReportAnswer as Tags
+use Rattle.sheet.proofs.report.ReportAnswer as Tags
 use Rattle.commands.specs.declared.reply.Reply.{Reply}
 use Rattle.commands.specs.declared.reply.Reply.the-variants as reply
 use Rattle.desk.specs.declared.state.Desk.{Desk}

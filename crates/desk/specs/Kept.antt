@@ -10,8 +10,8 @@ use Rattle.plane.specs.Answers.{refusalNumber}
 use Rattle.rules.specs.Words.{rulesOf}
 use Rattle.rules.specs.declared.macros.MacroAnswer.{MacroAnswer}
 use Rattle.rules.specs.declared.macros.MacroAnswer.the-variants as macro
-use Rattle.checker.specs.Layout.{Layout}
-use Rattle.checker.specs.Ready.{Fit}
+use Rattle.sheet.specs.Layout.{Layout}
+use Rattle.sheet.specs.Ready.{Fit}
 use Rattle.commands.specs.declared.command.Command.{Command}
 use Rattle.commands.specs.declared.command.Command.the-variants.{New, Rule, Width, Spacing, Paint, Check, Report, Nothing}
 use Rattle.commands.specs.declared.reply.Reply.{Reply}

@@ -11,10 +11,10 @@ use Rattle.rules.specs.declared.rule.Rule as rules
 use Rattle.rules.specs.Macros.{width, widthSound, spacing, spacingSound}
 use Rattle.rules.specs.Words.{sound, reach}
 use Rattle.checker.specs.Check.{CheckLeft, checkRun, ranCheck}
-use Rattle.checker.specs.Create.{fresh}
-use Rattle.checker.specs.Layout.{Layout}
-use Rattle.checker.specs.Paint.{paintedLayout}
-use Rattle.checker.specs.Report.{Findings, findings}
+use Rattle.sheet.specs.Create.{fresh}
+use Rattle.sheet.specs.Layout.{Layout}
+use Rattle.sheet.specs.Paint.{paintedLayout}
+use Rattle.sheet.specs.Report.{Findings, findings}
 use Rattle.commands.specs.declared.command.Command.{Command}
 use Rattle.commands.specs.declared.command.Command.the-variants.{New, Rule, Width, Spacing, Paint, Check, Report, Nothing}
 use Rattle.commands.specs.declared.reply.Reply.{Reply}

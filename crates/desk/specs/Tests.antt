@@ -8,7 +8,7 @@ use Rattle.plane.specs.declared.tile.Area.{Area}
 use Rattle.plane.specs.Picture.{tiles}
 use Rattle.plane.specs.Words.{width, height, roomIn}
 use Rattle.paint.specs.Paint.{paintedOf}
-use Rattle.checker.specs.Layout.{Layout}
+use Rattle.sheet.specs.Layout.{Layout}
 
 -- the number of the first test that fails, 0 if all pass; a command lists them in rising number
 abbrev pub firstNo : List (ℕ × Bool) → ℕ

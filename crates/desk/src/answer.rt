@@ -13,7 +13,7 @@ ghost use mathlib.Core.Bool.{true};
 ghost use mathlib.Core.List.{List};
 ghost use mathlib.Core.Path.{_≡_};
 ghost use Prim.Native.Nat.{ℕ};
-ghost use Rattle.checker.specs.Layout.{lent};
+ghost use Rattle.sheet.specs.Layout.{lent};
 ghost use Rattle.desk.specs.Kept.{modelOf, Kept, Comes};
 ghost use Rattle.desk.specs.Model.{early, later, answered};
 

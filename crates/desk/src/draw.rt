@@ -2,14 +2,14 @@
 use crate::state::Answered;
 use crate::state::Desk;
 use crate::state::take_answer;
-use checker::create::create;
-use checker::painting::paint;
 use plane::tile::Area;
+use sheet::create::create;
+use sheet::painting::paint;
 ghost use mathlib.Core.Bool.{true};
 ghost use mathlib.Core.List.{List};
 ghost use mathlib.Core.Path.{_≡_};
 ghost use Prim.Native.Nat.{ℕ};
-ghost use Rattle.checker.specs.Layout.{lent};
+ghost use Rattle.sheet.specs.Layout.{lent};
 ghost use Rattle.desk.specs.Kept.{modelOf, Kept, Comes};
 ghost use Rattle.desk.specs.Model.{opened, paintedBy};
 

@@ -19,7 +19,7 @@ ghost use lib.ListN.{length};
 ghost use Rattle.plane.specs.Words.{kinds};
 ghost use Rattle.rules.specs.Macros.{width, widthSound, spacing, spacingSound};
 ghost use Rattle.rules.specs.Words.{sound};
-ghost use Rattle.checker.specs.Layout.{Layout, lent};
+ghost use Rattle.sheet.specs.Layout.{Layout, lent};
 ghost use Rattle.desk.specs.Kept.{modelOf, tookMacro, Kept, Comes, AddsRules};
 ghost use Rattle.desk.specs.Model.{added, later};
 

@@ -20,9 +20,9 @@ use Rattle.piece.specs.declared.waits.Block.{Block}
 use Rattle.piece.specs.declared.waits.Block.the-variants.{At, Nothing}
 use Rattle.piece.proofs.Counts.{nothing-waits}
 use Rattle.checker.specs.Check.{CheckLeft, Checked, Run, afterBlock, checkRefusals, checkRun, checkedPiece, fitsBlock, lowestOf, pieceErrors, pieceFits, pieceWaiting, turn, waitingOf}
-use Rattle.checker.specs.Layout.{Layout, Marks, room}
-use Rattle.checker.specs.Ready.{Fit}
-use Rattle.checker.specs.Report.{Findings, Reported}
+use Rattle.sheet.specs.Layout.{Layout, Marks, room}
+use Rattle.sheet.specs.Ready.{Fit}
+use Rattle.sheet.specs.Report.{Findings, Reported}
 use Rattle.checker.proofs.CheckStays.{check-carries, leftBy}
 use Rattle.checker.proofs.Checkings.{passed-fit}
 use Rattle.checker.proofs.Runs.{one-fewer, piece-fit, run-over}

@@ -14,15 +14,15 @@ use Rattle.piece.specs.Pieces.{touched, waitingPieces}
 use Rattle.piece.specs.Remark.{fullMark, nearArea, remarked}
 use Rattle.piece.proofs.Counts.{no-squares-wait, painted-pieces}
 use Rattle.checker.specs.Check.{checkedPiece, waitingOf}
-use Rattle.checker.specs.Create.{Created}
-use Rattle.checker.specs.Layout.{Layout, SoundLayout}
-use Rattle.checker.specs.Paint.{Painted}
-use Rattle.checker.specs.Ready.{Fit}
+use Rattle.sheet.specs.Create.{Created}
+use Rattle.sheet.specs.Layout.{Layout, SoundLayout}
+use Rattle.sheet.specs.Paint.{Painted}
+use Rattle.sheet.specs.Ready.{Fit}
 use Rattle.checker.proofs.CheckStays.{check-carries, check-idle}
 use Rattle.checker.proofs.OnePiece.{errors-show, waiting-show}
 use Rattle.checker.proofs.Runs.{Doable, one-fewer, piece-fit, piece-in}
-use Rattle.checker.proofs.Shows.{create-shows, create-size, paint-errors, paint-shows, paint-size}
-use Rattle.checker.proofs.Stays.{create-makes, paint-keeps}
+use Rattle.sheet.proofs.Shows.{create-shows, create-size, paint-errors, paint-shows, paint-size}
+use Rattle.sheet.proofs.Stays.{create-makes, paint-keeps}
 use Rattle.layout.specs.History.{Far, GoodRules, History, created, fullMarks, then-checked, then-not-checked, then-not-created, then-painted, then-reported}
 use Rattle.layout.proofs.FarSquares.{Agree, FarRight, blank-right, paint-right, piece-right}
 

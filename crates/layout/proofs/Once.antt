@@ -16,14 +16,15 @@ use Rattle.rules.specs.Vetting.{lowestBad}
 use Rattle.rules.specs.Words.{haloOf, rulesOf}
 use Rattle.checker.specs.declared.check.CheckAnswer.{CheckAnswer}
 use Rattle.checker.specs.declared.check.CheckAnswer.the-variants as check
-use Rattle.checker.specs.declared.report.ReportAnswer.{ReportAnswer}
-use Rattle.checker.specs.declared.report.ReportAnswer.the-variants as report
-use Rattle.checker.specs.Answers.{checkNumber, checkPlace, checkDone, checkLeft, reportNumber, reportPlace, reportSettled, reportSquares, reportTiles, foundBy}
-use Rattle.checker.specs.Layout.{Layout}
+use Rattle.sheet.specs.declared.report.ReportAnswer.{ReportAnswer}
+use Rattle.sheet.specs.declared.report.ReportAnswer.the-variants as report
+use Rattle.sheet.specs.Answers.{reportNumber, reportPlace, reportSettled, reportSquares, reportTiles, foundBy}
+use Rattle.checker.specs.Answers.{checkNumber, checkPlace, checkDone, checkLeft}
+use Rattle.sheet.specs.Layout.{Layout}
 use Rattle.checker.specs.Check.{CheckLeft, Checked, checkRefusals, checkRun, ranCheck, refusedCheck}
-use Rattle.checker.specs.Create.{Created}
-use Rattle.checker.specs.Paint.{Painted}
-use Rattle.checker.specs.Report.{Findings, Reported}
+use Rattle.sheet.specs.Create.{Created}
+use Rattle.sheet.specs.Paint.{Painted}
+use Rattle.sheet.specs.Report.{Findings, Reported}
 use Rattle.layout.specs.Pack.{packReport, packPoint, packMacro, packCheck, ReportPacked, PointPacked, MacroPacked, CheckPacked}
 
 -- ---- create, as C sees it and as the enum tells it

@@ -26,8 +26,8 @@ use Rattle.rules.proofs.Vetted.{lowest}
 use Rattle.piece.specs.declared.waits.Block.{Block}
 use Rattle.piece.specs.declared.waits.Block.the-variants.{At, Nothing}
 use Rattle.piece.specs.Pieces.{blocks, pieceWaits, pieces, waitingPieces}
-use Rattle.checker.specs.Layout.{Layout}
-use Rattle.checker.specs.Report.{around, settled, Findings, noFindings, findings, reportRefusals, Reported}
+use Rattle.sheet.specs.Layout.{Layout}
+use Rattle.sheet.specs.Report.{around, settled, Findings, noFindings, findings, reportRefusals, Reported}
 use Rattle.checker.specs.Check.{CheckLeft, Checked, Run, afterBlock, checkRefusals, checkRun, fitsBlock, lowestOf, turn}
 use Rattle.checker.proofs.Checkings.{passed-fit}
 use Rattle.checker.proofs.CheckStays.{leftBy, run-few, run-fit}

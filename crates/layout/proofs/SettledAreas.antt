@@ -23,8 +23,8 @@ use Rattle.plane.proofs.Lowests.{all-hold}
 use Rattle.plane.proofs.ToTable.{shown}
 use Rattle.rules.specs.Words.{haloOf}
 use Rattle.rules.proofs.Window.{Within, within}
-use Rattle.checker.specs.Layout.{Layout}
-use Rattle.checker.specs.Report.{Findings, Reported, findings, reportRefusals, settled}
+use Rattle.sheet.specs.Layout.{Layout}
+use Rattle.sheet.specs.Report.{Findings, Reported, findings, reportRefusals, settled}
 use Rattle.layout.specs.History.{Far, FoundFull, History, fullMarks}
 use Rattle.layout.proofs.Histories.{far-squares-right, history-size, history-sound}
 use Rattle.layout.proofs.Settles.{settled-clear}

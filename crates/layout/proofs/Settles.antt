@@ -10,7 +10,7 @@ use Rattle.plane.specs.Area.{squaresIn}
 use Rattle.plane.specs.Picture.{Picture, sumTo}
 use Rattle.plane.specs.Words.{width, height, pictureOf}
 use Rattle.plane.proofs.Counting.{none-of, sum-none}
-use Rattle.checker.specs.Report.{around, settled}
+use Rattle.sheet.specs.Report.{around, settled}
 use borrow.Author.Tests.{eq-eqb, ne-eqb, eqb-true}
 
 -- (x,y) lies within k of the area

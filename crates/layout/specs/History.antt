@@ -15,11 +15,11 @@ use Rattle.rules.specs.Vetting.{ListLength, AllSound}
 use Rattle.rules.specs.Words.{rulesOf}
 use Rattle.piece.specs.Pieces.{touched}
 use Rattle.piece.specs.Remark.{fullMark}
-use Rattle.checker.specs.Layout.{Layout}
-use Rattle.checker.specs.Create.{Created}
-use Rattle.checker.specs.Paint.{Painted}
+use Rattle.sheet.specs.Layout.{Layout}
+use Rattle.sheet.specs.Create.{Created}
+use Rattle.sheet.specs.Paint.{Painted}
 use Rattle.checker.specs.Check.{Checked}
-use Rattle.checker.specs.Report.{Findings, Reported}
+use Rattle.sheet.specs.Report.{Findings, Reported}
 
 -- a rule list that breaks no range, for T types
 pub record GoodRules (rules : List ℕ) (used t : ℕ) : Type 0 where

@@ -6,8 +6,8 @@ use Rattle.plane.specs.declared.tile.Area.{Area}
 use Rattle.plane.specs.Point.{Pointed}
 use Rattle.plane.specs.Words.{width, height}
 use Rattle.checker.specs.Check.{Checked}
-use Rattle.checker.specs.Layout.{Layout}
-use Rattle.checker.specs.Report.{Reported}
+use Rattle.sheet.specs.Layout.{Layout}
+use Rattle.sheet.specs.Report.{Reported}
 
 -- bits low to high of r
 abbrev pub bits : ℕ → ℕ → ℕ → ℕ

@@ -18,9 +18,9 @@ use Rattle.rules.specs.Words.{wordsOf, rulesOf, haloOf}
 use Rattle.piece.specs.Pieces.{someIn, pieces, inWindow, waitsAt, pieceWaits, waitingPieces, lowestPiece, lowestBlock}
 use Rattle.piece.specs.Remark.{remarked, nearBlock}
 use Rattle.checker.specs.Check.{CheckLeft, checkRun, ranCheck}
-use Rattle.checker.specs.Create.{fresh}
-use Rattle.checker.specs.Layout.{Layout}
-use Rattle.checker.specs.Paint.{paintedLayout}
+use Rattle.sheet.specs.Create.{fresh}
+use Rattle.sheet.specs.Layout.{Layout}
+use Rattle.sheet.specs.Paint.{paintedLayout}
 
 -- ---- what a line is about
 -- a window w by h with t types, the room of its tables, and areas painted in turn, each with its type

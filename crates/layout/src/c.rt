@@ -2,10 +2,6 @@
 use ask::handle::point;
 use checker::check::CheckAnswer;
 use checker::check::check;
-use checker::create::create;
-use checker::painting::paint;
-use checker::report::ReportAnswer;
-use checker::report::report;
 use plane::answer::Point;
 use plane::answer::answer_number;
 use plane::answer::refusal_number;
@@ -14,17 +10,22 @@ use plane::words::wide;
 use rules::macros::MacroAnswer;
 use rules::macros::spacing;
 use rules::macros::width;
+use sheet::create::create;
+use sheet::painting::paint;
+use sheet::report::ReportAnswer;
+use sheet::report::report;
 ghost use mathlib.Core.Path.{_≡_};
 ghost use Prim.Native.Nat.{_≤_};
 ghost use Rattle.plane.specs.Answers.{pointNumber, pointTile};
 ghost use Rattle.plane.specs.Picture.{area};
 ghost use Rattle.rules.specs.Answers.{macroNumber, macroUsed};
 ghost use Rattle.rules.specs.Expansion.{Widened, Spaced};
-ghost use Rattle.checker.specs.Answers.{checkNumber, checkPlace, checkDone, checkLeft, reportNumber, reportPlace, reportSettled, reportSquares, reportTiles};
-ghost use Rattle.checker.specs.Create.{Created};
-ghost use Rattle.checker.specs.Layout.{lent};
+ghost use Rattle.sheet.specs.Answers.{reportNumber, reportPlace, reportSettled, reportSquares, reportTiles};
+ghost use Rattle.checker.specs.Answers.{checkNumber, checkPlace, checkDone, checkLeft};
+ghost use Rattle.sheet.specs.Create.{Created};
+ghost use Rattle.sheet.specs.Layout.{lent};
 ghost use Rattle.layout.specs.Pack.{packCheck, NarrowCheck, CheckPacked, packReport, packPoint, packMacro, Narrow, ReportPacked, PointPacked, MacroPacked};
-ghost use Rattle.checker.specs.Paint.{Painted};
+ghost use Rattle.sheet.specs.Paint.{Painted};
 
 // A report's answer in one number.
 fn pack_report(r: ReportAnswer) -> u64

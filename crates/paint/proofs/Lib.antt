@@ -1,3 +1,4 @@
+-- The laws of painting, each file named after its subject.
 pub mod Fills
 pub mod Finish
 pub mod Whole

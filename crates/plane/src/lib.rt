@@ -1,4 +1,4 @@
-// The tile plane: tables of strips, tested, and asked for points, neighbours and areas.
+// The tile plane: tables of strips, their test, the walk to a square, and what an area holds.
 pub mod answer;
 pub mod area;
 pub mod find;

@@ -6,7 +6,7 @@ use mathlib.Core.Path.{_≡_, refl, sym, ap, subst, _∙_}
 use mathlib.Core.List.{List, [], _∷_, _++_, append-nil}
 use lib.ListN.{length, take, length-replicate}
 use borrow.Author.Tests.{eq-eqb, ne-eqb, ltb-true}
-use Rattle.checker.specs.Layout.{Layout, lent}
+use Rattle.sheet.specs.Layout.{Layout, lent}
 use Rattle.plane.specs.Picture.{joined}
 use Rattle.rules.specs.Words.{rulesOf}
 use Rattle.text.specs.declared.line.Line.{Line}

@@ -11,7 +11,7 @@ use Rattle.piece.specs.Remark.{remarked, nearBlock}
 use Rattle.rules.specs.Forbid.{forbidden}
 use Rattle.rules.specs.Some.{some}
 use Rattle.checker.specs.Check.{checkRun}
-use Rattle.checker.specs.Report.{settled}
+use Rattle.sheet.specs.Report.{settled}
 use Rattle.text.specs.Number.{digits, valueFrom}
 use Rattle.text.specs.Decimal.{decimalIn}
 use Rattle.text.specs.Part.{leading, onto, parts, onFront, unblanked}

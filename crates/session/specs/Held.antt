@@ -4,7 +4,7 @@ use mathlib.Core.Bool.{true}
 use mathlib.Core.Path.{_≡_}
 use mathlib.Core.List.{List, _++_}
 use lib.ListN.{length, take}
-use Rattle.checker.specs.Layout.{Layout, lent}
+use Rattle.sheet.specs.Layout.{Layout, lent}
 use Rattle.text.specs.Line.{Reads, Sound}
 use Rattle.desk.specs.Kept.{modelOf, Kept}
 use Rattle.session.specs.declared.state.Ended.{Ended}

@@ -4,7 +4,7 @@ use mathlib.Core.Bool.{Bool, true, false, cond}
 use mathlib.Core.List.{List, [], _∷_, _++_}
 use lib.Dec.{eqb}
 use lib.ListN.{replicate}
-use Rattle.checker.specs.Layout.{lent}
+use Rattle.sheet.specs.Layout.{lent}
 use Rattle.text.specs.Line.{tooLong}
 use Rattle.commands.specs.Command.{commandOf}
 use Rattle.commands.specs.Reply.{replyBytes}

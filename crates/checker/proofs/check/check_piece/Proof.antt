@@ -1,5 +1,5 @@
 -- What each step is handed follows from the piece to check; the ways out, no room for waiting or for errors and both done, are one law each.
-use Rattle.checker.proofs.Shapes.{layout-words}
+use Rattle.sheet.proofs.Shapes.{layout-words}
 use Rattle.checker.proofs.OnePiece.{piece-marks, in-window, waiting-paintable, waiting-kinds, as-waiting, as-waiting-tiles, piece-unwaited, piece-unmarked, piece-checked}
 use mathlib.Core.Path.{sym, _∙_}
 use native.Mathlib.Omega.{arith}

@@ -1,8 +1,8 @@
 -- The pieces so far are the beginning of every run (`SoFar`). A row that ends, a piece without room, one done and all done are one law each. The measure is what is left of n.
 use Rattle.checker.proofs.Turns.{waiting-plane}
-use Rattle.checker.proofs.Shapes.{layout-words}
+use Rattle.sheet.proofs.Shapes.{layout-words}
 use Rattle.checker.proofs.RowSweep.{SoFar, row-block, row-start, row-done, row-ends, row-full, row-more, next-marks}
-use Rattle.checker.specs.Layout.{lent}
+use Rattle.sheet.specs.Layout.{lent}
 use lib.ListN.{length}
 use mathlib.Core.Path.{_≡_, refl, _∙_}
 use mathlib.Core.Bool.{false}

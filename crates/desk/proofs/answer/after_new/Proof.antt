@@ -2,7 +2,7 @@
 use native.Mathlib.Omega.{arith}
 use borrow.Author.Needs.{needs}
 use Rattle.desk.proofs.Answers.{adds-rules, comes-later, comes-report}
-use Rattle.checker.specs.Layout.{lent}
+use Rattle.sheet.specs.Layout.{lent}
 use Rattle.desk.proofs.answer.after_new.Statement.{statement}
 use Rattle.desk.proofs.answer.after_new.Tie as tie
 

@@ -1,7 +1,7 @@
 -- `answer`. After an accepted `new`, or before one.
 use borrow.Author.Needs.{needs}
 use Rattle.desk.proofs.Answers.{comes-ready, comes-first}
-use Rattle.checker.specs.Layout.{lent}
+use Rattle.sheet.specs.Layout.{lent}
 use Rattle.desk.proofs.answer.answer.Statement.{statement}
 use Rattle.desk.proofs.answer.answer.Tie as tie
 

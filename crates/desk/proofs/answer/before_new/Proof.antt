@@ -1,7 +1,7 @@
 -- `before_new`. A `new` command, or any other line.
 use borrow.Author.Needs.{needs}
 use Rattle.desk.proofs.Answers.{comes-early, comes-out}
-use Rattle.checker.specs.Layout.{lent}
+use Rattle.sheet.specs.Layout.{lent}
 use Rattle.desk.proofs.answer.before_new.Statement.{statement}
 use Rattle.desk.proofs.answer.before_new.Tie as tie
 

@@ -2,7 +2,7 @@
 use mathlib.Core.Path.{refl}
 use borrow.Author.Needs.{needs}
 use Rattle.desk.proofs.Answers.{comes-later, comes-nothing}
-use Rattle.checker.specs.Layout.{lent}
+use Rattle.sheet.specs.Layout.{lent}
 use Rattle.desk.proofs.ruling.add_rules.Statement.{statement}
 use Rattle.desk.proofs.ruling.add_rules.Tie as tie
 
