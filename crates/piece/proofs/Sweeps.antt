@@ -159,11 +159,11 @@ module _ (w x r : ℕ) (p q : Picture) (C : Cleared w x r p q) where
   row-adds h = omega (arith, tiles-count w h q, tiles-count w h p, sum-pair h (rowBegun w q) (rowBegun w p) r 2 row-elsewhere row-here rows-here)
 
 -- ---- row after row
-painted-in : (p : Picture) (a : Area) (k i j : ℕ) → Within a i j → painted p a k i j ≡ k
+pub painted-in : (p : Picture) (a : Area) (k i j : ℕ) → Within a i j → painted p a k i j ≡ k
 unfolding painted
 painted-in p a k i j u = rw (area-of a i j u)
 
-painted-off : (p : Picture) (a : Area) (k i j : ℕ) → (Within a i j → ⊥) → painted p a k i j ≡ p i j
+pub painted-off : (p : Picture) (a : Area) (k i j : ℕ) → (Within a i j → ⊥) → painted p a k i j ≡ p i j
 unfolding painted
 painted-off p a k i j f = rw (is-false (inArea a i j) (λ e. f (within a i j e)))
 

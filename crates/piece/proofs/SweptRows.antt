@@ -19,6 +19,7 @@ use Rattle.piece.specs.Sweep.{sweptArea, swept, WaitingRow}
 use Rattle.piece.proofs.Blocks.{waits-inside, lowest-block, block-lowest}
 use Rattle.piece.proofs.Counts.{idle-square, piece-has, piece-as}
 use Rattle.piece.proofs.Truths.{is-false}
+use Rattle.piece.proofs.Sweeps.{painted-in, painted-off}
 
 -- ---- a column of a row: 0 if its piece does not wait
 module _ {w h : ℕ} {p : Picture} {by : ℕ} {cs : List ℕ} (r : WaitingRow w h p by cs) (c : ℕ) (l : c < 256) where
@@ -45,16 +46,6 @@ module _ (w h : ℕ) (p q : Picture) (same : (x y : ℕ) → x < w → y < h →
       also Nothing l = λ bx by. sym (waits-same bx by) ∙ l bx by
 
 -- ---- an area done
--- its squares are 0, and the others are as they were
-module _ (p : Picture) (a : Area) (x y : ℕ) where
-  done-in : Within a x y → painted p a 0 x y ≡ 0
-  unfolding painted
-  done-in i = ap (λ (c : Bool). cond c 0 (p x y)) (area-of a x y i)
-
-  done-out : (Within a x y → ⊥) → painted p a 0 x y ≡ p x y
-  unfolding painted
-  done-out n = ap (λ (c : Bool). cond c 0 (p x y)) (is-false (inArea a x y) (λ e. n (within a x y e)))
-
 within-or-not : (a : Area) (x y : ℕ) → Within a x y ⊎ (Within a x y → ⊥)
 within-or-not a x y = ⊎-elim (λ e. inl (within a x y e)) (λ e. inr (λ i. true≢false (sym (area-of a x y i) ∙ e))) (bool-cases (inArea a x y))
 
@@ -67,24 +58,24 @@ module _ (w h : ℕ) (p : Picture) where
   -- the pieces from bx up to e do not wait: to do them too changes nothing
   pub swept-skip : (bx e by : ℕ) → bx ≤ e → ((c : ℕ) → bx ≤ c → c < e → pieceWaits w h p c by ≡ false) → (x y : ℕ) → x < w → y < h → swept w h p e by x y ≡ swept w h p bx by x y
   swept-skip bx e by l idle x y u v = ⊎-elim
-      (λ (i : Within (sweptArea w h e by) x y). done-in p (sweptArea w h e by) x y i ∙ sym (⊎-elim
-      (λ (a : x < 16 * bx). done-in p (sweptArea w h bx by) x y (in-sweep w h bx by x y u v a (i .low) (omega (arith, i .high))))
+      (λ (i : Within (sweptArea w h e by) x y). painted-in p (sweptArea w h e by) 0 x y i ∙ sym (⊎-elim
+      (λ (a : x < 16 * bx). painted-in p (sweptArea w h bx by) 0 x y (in-sweep w h bx by x y u v a (i .low) (omega (arith, i .high))))
       (λ (a : 16 * bx ≤ x).
       let r : y / 16 ≡ by = omega (arith, i .low, i .high) in
-      done-out p (sweptArea w h bx by) x y (λ z. omega (arith, z .right-of)) ∙ idle-square w h p x y u v (rw r (idle (x / 16) (omega arith) (omega (arith, i .right-of)))))
+      painted-off p (sweptArea w h bx by) 0 x y (λ z. omega (arith, z .right-of)) ∙ idle-square w h p x y u v (rw r (idle (x / 16) (omega arith) (omega (arith, i .right-of)))))
       (lt-or-ge x (16 * bx))))
       (λ (n : Within (sweptArea w h e by) x y → ⊥).
-      done-out p (sweptArea w h e by) x y n
-      ∙ sym (done-out p (sweptArea w h bx by) x y (λ i. n (in-sweep w h e by x y u v (omega (arith, i .right-of)) (i .low) (omega (arith, i .high))))))
+      painted-off p (sweptArea w h e by) 0 x y n
+      ∙ sym (painted-off p (sweptArea w h bx by) 0 x y (λ i. n (in-sweep w h e by x y u v (omega (arith, i .right-of)) (i .low) (omega (arith, i .high))))))
       (within-or-not (sweptArea w h e by) x y)
 
   -- one piece more is done
   pub swept-next : (bx by x y : ℕ) → x < w → y < h → painted (swept w h p bx by) (nearArea w h 0 bx by) 0 x y ≡ swept w h p (bx + 1) by x y
   swept-next bx by x y u v = ⊎-elim
-      (λ (i : Within near x y). done-in (swept w h p bx by) near x y i ∙ sym (done-in p after x y (in-sweep w h (bx + 1) by x y u v (omega (arith, i .right-of)) (omega (arith, i .low)) (omega (arith, i .high)))))
-      (λ (n : Within near x y → ⊥). done-out (swept w h p bx by) near x y n ∙ ⊎-elim
-      (λ (i : Within before x y). done-in p before x y i ∙ sym (done-in p after x y (in-sweep w h (bx + 1) by x y u v (omega (arith, i .right-of)) (i .low) (omega (arith, i .high)))))
-      (λ (m : Within before x y → ⊥). done-out p before x y m ∙ sym (done-out p after x y (λ i. ⊎-elim
+      (λ (i : Within near x y). painted-in (swept w h p bx by) near 0 x y i ∙ sym (painted-in p after 0 x y (in-sweep w h (bx + 1) by x y u v (omega (arith, i .right-of)) (omega (arith, i .low)) (omega (arith, i .high)))))
+      (λ (n : Within near x y → ⊥). painted-off (swept w h p bx by) near 0 x y n ∙ ⊎-elim
+      (λ (i : Within before x y). painted-in p before 0 x y i ∙ sym (painted-in p after 0 x y (in-sweep w h (bx + 1) by x y u v (omega (arith, i .right-of)) (i .low) (omega (arith, i .high)))))
+      (λ (m : Within before x y → ⊥). painted-off p before 0 x y m ∙ sym (painted-off p after 0 x y (λ i. ⊎-elim
       (λ (a : x < 16 * bx). m (in-sweep w h bx by x y u v a (i .low) (omega (arith, i .high))))
       (λ (a : 16 * bx ≤ x). n (record { left-of = omega arith; right-of = omega (arith, i .right-of); low = omega (arith, i .low); high = omega (arith, i .high) }))
       (lt-or-ge x (16 * bx)))))
@@ -103,14 +94,14 @@ module _ (w h : ℕ) (p : Picture) where
   -- a piece that still waits did wait, and is none of those done
   still-waits : (bx by cx cy : ℕ) → pieceWaits w h (swept w h p bx by) cx cy ≡ true → (pieceWaits w h p cx cy ≡ true) × (by ≡ cy → bx ≤ cx)
   still-waits bx by cx cy e = (
-    piece-as w h (swept w h p bx by) p cx cy (λ x y f i. done-out p (sweptArea w h bx by) x y (λ z. i .kind (done-in p (sweptArea w h bx by) x y z))) e,
+    piece-as w h (swept w h p bx by) p cx cy (λ x y f i. painted-off p (sweptArea w h bx by) 0 x y (λ z. i .kind (painted-in p (sweptArea w h bx by) 0 x y z))) e,
     λ r.
         let a = piece-has w h (swept w h p bx by) cx cy e in
         let f = a .2 in
         let i = a .3 in
         ⊎-elim
         (λ (z : cx < bx).
-        absurd (i .kind (done-in p (sweptArea w h bx by) (a .0) (a .1) (in-sweep w h bx by (a .0) (a .1) (i .column) (i .row) (omega (arith, f .right-of)) (omega (arith, f .low)) (omega (arith, f .high))))))
+        absurd (i .kind (painted-in p (sweptArea w h bx by) 0 (a .0) (a .1) (in-sweep w h bx by (a .0) (a .1) (i .column) (i .row) (omega (arith, f .right-of)) (omega (arith, f .low)) (omega (arith, f .high))))))
         (λ (z : bx ≤ cx). z)
         (lt-or-ge cx bx),
   )
@@ -126,14 +117,14 @@ module _ (w h : ℕ) (p : Picture) where
     pub swept-start : (x y : ℕ) → x < w → y < h → swept w h p b by x y ≡ p x y
     swept-start x y u v =
         swept-skip 0 b by (omega arith) (λ c z m. is-false (pieceWaits w h p c by) (λ e. ⊎-elim (λ q. omega arith) (λ q. omega (arith, q .1)) (l .least c by e))) x y u v
-        ∙ done-out p (sweptArea w h 0 by) x y (λ i. omega (arith, i .right-of))
+        ∙ painted-off p (sweptArea w h 0 by) 0 x y (λ i. omega (arith, i .right-of))
 
     -- with the pieces before it done, a piece of the row that waits is the lowest
     pub swept-lowest : (bx : ℕ) → pieceWaits w h p bx by ≡ true → At bx by ≡ lowestBlock w h (swept w h p bx by)
     swept-lowest bx e = block-lowest w h (swept w h p bx by) (At bx by) (record {
       column = waits-inside w h p bx by e .0;
       row = l .row;
-      waits = piece-as w h p (swept w h p bx by) bx by (λ x y f i. sym (done-out p (sweptArea w h bx by) x y (λ z. omega (arith, f .left-of, z .right-of)))) e;
+      waits = piece-as w h p (swept w h p bx by) bx by (λ x y f i. sym (painted-off p (sweptArea w h bx by) 0 x y (λ z. omega (arith, f .left-of, z .right-of)))) e;
       least = λ cx cy g.
           let s = still-waits bx by cx cy g in
           ⊎-elim (λ (z : by < cy). inl z) (λ (z : (by ≡ cy) × (b ≤ cx)). inr (z .0, s .1 (z .0))) (l .least cx cy (s .0));

@@ -120,7 +120,7 @@ module _ {ws us vs : List ℕ} {b : Brush} {j k m : ℕ} (I : Given ws b) (L : L
         (lt-or-ge (b .y2) (d .0 .bottom));
   }
 
-  pub all-built : upTo m (tileOf vs) ++ upTo (count ws - j) (tileFrom ws j) ≡ tiles (width ws) (height ws) (goal ws b)
+  all-built : upTo m (tileOf vs) ++ upTo (count ws - j) (tileFrom ws j) ≡ tiles (width ws) (height ws) (goal ws b)
   all-built = strips-are-tiles (width ws) (height ws) (goal ws b) _ all-strips
 
 -- what keep leaves is what the zone's cover is handed

@@ -56,7 +56,7 @@ loop-less : tie.Need-loop-less Inv-loop μ-loop
 loop-less c = omega (arith, c .before .before .before .before .before .before .loop-test .taken, c .before .before .before .cover-row .ensures .up)
 
 loop-again : tie.Need-loop-again Inv-loop μ-loop
-loop-again c = (c .before .before .before .cover-row .kept .1 .1 .0 ∙ c .before .before .before .before .before .before .before .loop .inv .0, c .before .before .before .before .before .seek .ensures .counted, zone-more (c .before .before .before .before .before .before .before .loop .inv .2) (c .before .before .before .cover-row .ensures) (omega (arith, c .before .before .before .before .before .before .before .before .least2 .ensures, c .before .before .before .before .before .before .loop-test .taken)) (c .if1 .left))
+loop-again c = (c .before .before .before .cover-row .kept .1 .1 .0 ∙ c .before .before .before .before .before .before .before .loop .inv .0, c .before .before .before .before .before .seek .ensures .counted, zone-more (c .before .before .before .before .before .before .before .loop .inv .2) (c .before .before .before .cover-row .ensures) (omega (arith, c .before .before .before .before .before .before .before .before .least2 .ensures, c .before .before .before .before .before .before .loop-test .taken, c .before .before .before .before .before .before .before .before .before .before .before .before .before .before .before .before .before .pre .0 .brush .area)) (c .if1 .left))
 
 same-length-2 : tie.Need-same-length-2 Inv-loop μ-loop
 same-length-2 c = c .before .loop .inv .0
