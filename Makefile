@@ -7,7 +7,7 @@
 # make check-c    the C tests alone: examples, worked squares, CASES calls and SCRIPTS sessions against a naive implementation
 # make fuzz N=1000000 SEED=1    more calls and sessions; the seed of a difference is printed
 # make valgrind   some hundred calls and some sessions under valgrind
-# make bench      times the library, and Magic and KLayout where they are installed, on the same layouts; COUNT=1 counts instructions too
+# make bench ROUNDS=5    times the library, and Magic and KLayout where they are installed, on the same layouts, best of so many rounds; COUNT=1 counts instructions too
 
 .PHONY: try demo test fmt lib install examples check-c check-header check-session fuzz valgrind bench
 
@@ -17,6 +17,7 @@ CASES = 30000
 SCRIPTS = 100
 N = 1000000
 SEED = 1
+ROUNDS = 5
 SESSION = target/bin/session
 STRICT = -std=c99 -Wall -Wextra -Wpedantic -Werror
 CFLAGS = -O2 -g
@@ -124,4 +125,4 @@ valgrind: build/compare build/naive_session build/scripts
 	echo "valgrind: 600 calls and 5 sessions, nothing found"; fi
 
 bench: lib
-	@bench/run build/liblayout.a
+	@bench/run build/liblayout.a $(ROUNDS)
