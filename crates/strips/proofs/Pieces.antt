@@ -1,8 +1,8 @@
--- The picture after a brush, and its pieces: what the brush sets, and a tile of the table clipped by it, are of one type.
+-- The picture after a brush, and its pieces: what the brush sets (its area, or a run of equal bits), and a tile of the table clipped by it, are of one type.
 use Prim.Native.Nat.{ℕ, _+_, _-_, _≤_}
 use native.Mathlib.Omega.{arith}
 use mathlib.Core.Bool.{true, false}
-use mathlib.Core.Path.{_≡_, sym, _∙_, ap, subst}
+use mathlib.Core.Path.{_≡_, refl, sym, _∙_, ap, subst}
 use mathlib.Core.Logic.{⊎-elim}
 use mathlib.Core.List.{List}
 use lib.ListN.{getD}
@@ -12,8 +12,8 @@ use Rattle.plane.specs.Plane.{Names}
 use Rattle.plane.specs.Strips.{Holds, Strip}
 use Rattle.plane.specs.Words.{height, pictureOf, tileOf, width}
 use Rattle.strips.specs.declared.brush.Brush.{Brush}
-use Rattle.strips.specs.Brush.{BrushIn, Clipped, Flat, Given, InkTile, after, brushTile, goal, inked}
-use Rattle.plane.proofs.Basics.{bool-cases}
+use Rattle.strips.specs.Brush.{BrushIn, Clipped, Flat, Given, InkTile, SameBits, after, brushTile, goal, inked}
+use Rattle.plane.proofs.Basics.{bool-cases, eq-or-ne, lt-or-ge}
 use Rattle.plane.proofs.Index.{holds-true, true-holds}
 
 -- ---- the picture after
@@ -25,14 +25,27 @@ pub after-out : (p : Picture) (b : Brush) (x y : ℕ) → (Holds (brushTile b) x
 unfolding after
 after-out p b x y h = ⊎-elim (λ e. absurd (h (holds-true (brushTile b) x y e))) (λ e. rw e) (bool-cases (holds (brushTile b) x y))
 
+-- ---- equal bits of a word
+pub bits-none : {word bit l : ℕ} → SameBits word bit l l
+bits-none = record { order = omega arith; each = λ j u v. absurd (omega arith) }
+
+-- equal bits on both sides of an equal bit
+pub bits-join : {word bit l m n r : ℕ} → SameBits word bit l m → bitOf word m ≡ bit → n ≡ m + 1 → SameBits word bit n r → SameBits word bit l r
+bits-join {m = m} A e f B = record {
+  order = omega arith;
+  each = λ j u v. ⊎-elim (A .each j u) (λ w. ⊎-elim (λ p. rw p e) (λ q. B .each j (omega arith) v) (eq-or-ne j m)) (lt-or-ge j m);
+}
+
 -- ---- the ink of the area
-pub ink-bit : {b : Brush} {x y : ℕ} (r : ℕ) → b .bits ≡ true → Holds (brushTile b) x y → r ≡ y - b .y1
-    → InkTile b x y (record { left = x; bottom = y; right = x + 1; top = y + 1; kind = bitOf (getD (b .rows) r 0) (x - b .x1) })
+pub ink-bits : {b : Brush} {x y l r bit : ℕ} (row : ℕ) → b .bits ≡ true → Holds (brushTile b) x y → row ≡ y - b .y1
+    → SameBits (getD (b .rows) row 0) bit l (x - b .x1) → bit ≡ bitOf (getD (b .rows) row 0) (x - b .x1)
+    → b .x1 + r ≤ b .x2 → SameBits (getD (b .rows) row 0) bit (x - b .x1 + 1) r
+    → InkTile b x y (record { left = b .x1 + l; bottom = y; right = b .x1 + r; top = y + 1; kind = bit })
 unfolding inked
-ink-bit {b} {x} {y} r o h e = record {
+ink-bits {b} {x} {y} row o h e L f m R = record {
   here = omega arith;
   inside = λ i z v. omega arith;
-  each = λ i z v. let p : i ≡ x = omega arith in let q : z ≡ y = omega arith in rw (o, p, q, e);
+  each = λ i z v. let q : z ≡ y = omega arith in rw (o, q, sym e) (sym (bits-join L (sym f) refl R .each (i - b .x1) (omega arith) (omega arith)));
 }
 
 pub ink-flat : {b : Brush} {x y : ℕ} {t : Tile} → b .bits ≡ false → Holds (brushTile b) x y → t ≡ brushTile b → InkTile b x y t

@@ -78,6 +78,11 @@ pub record Flat (w h : ℕ) (q : Picture) (x y : ℕ) (t : Tile) : Type 0 where
   pub here : Holds t x y
   pub all : (i z : ℕ) → Holds t i z → q i z ≡ t .kind
 
+-- the bits of a word from place l up to place r are all `bit`
+pub record SameBits (word bit l r : ℕ) : Type 0 where
+  pub order : l ≤ r
+  pub each : (j : ℕ) → l ≤ j → j < r → bitOf word j ≡ bit
+
 -- a rectangle of one type in the brush's area
 pub record InkTile (b : Brush) (x y : ℕ) (t : Tile) : Type 0 where
   pub here : Holds t x y

@@ -4,12 +4,14 @@ use plane::words::least;
 use plane::words::most;
 use plane::words::nth_tile;
 use plane::words::wide;
+ghost use Prim.Native.Nat.{_<_, _≤_};
 ghost use mathlib.Core.Path.{_≡_};
 ghost use mathlib.Core.Bool.{true};
+ghost use Rattle.plane.specs.Picture.{bitOf};
 ghost use Rattle.plane.specs.Plane.{Names};
 ghost use Rattle.plane.specs.Strips.{Holds};
 ghost use Rattle.plane.specs.Words.{width, height};
-ghost use Rattle.strips.specs.Brush.{brushTile, brushArea, Small, Given, goal, InkTile, Clipped, Flat};
+ghost use Rattle.strips.specs.Brush.{brushTile, brushArea, Small, Given, goal, SameBits, InkTile, Clipped, Flat};
 
 // The squares with x1 <= x < x2 and y1 <= y < y2, and what they are set to: one kind, or bits, bit x - x1 of row y - y1.
 pub struct Brush {
@@ -35,7 +37,45 @@ pub fn brush_tile(b: Brush) -> Tile
     }
 }
 
-// A rectangle of one type in the brush's area, that holds (x,y): all of it, or one square of bits.
+// Bit i of a word.
+fn bit_at(word: u64, i: u16) -> u64
+    requires { ⌜ i < 64 ⌝ }
+    ensures { λ r. ⌜ r ≡ bitOf word i ⌝ }
+{
+    (word >> (i as u64)) % 2
+}
+
+// Up to which place the bits of a word from i on are all `bit`: n at most.
+fn same_right(word: u64, bit: u64, i: u16, n: u16) -> u16
+    requires { ⌜ (i ≤ n) × (n ≤ 64) ⌝ }
+    ensures { λ r. ⌜ (r ≤ n) × SameBits word bit i r ⌝ }
+{
+    let mut j = i;
+    while j < n {
+        if bit_at(word, j) != bit {
+            return j;
+        }
+        j += 1;
+    }
+    j
+}
+
+// From which place on the bits of a word below i are all `bit`.
+fn same_left(word: u64, bit: u64, i: u16) -> u16
+    requires { ⌜ i ≤ 64 ⌝ }
+    ensures { λ r. ⌜ SameBits word bit r i ⌝ }
+{
+    let mut j = i;
+    while 0 < j {
+        if bit_at(word, j - 1) != bit {
+            return j;
+        }
+        j -= 1;
+    }
+    j
+}
+
+// A rectangle of one type in the brush's area, that holds (x,y): all of it, or of bits the run of equal bits of row y.
 pub fn ink_tile(b: Brush, x: u16, y: u16) -> Tile
     requires { ⌜ Holds (brushTile b) x y ⌝ }
     requires { ⌜ (b .bits ≡ true → Small (brushArea b)) ⌝ }
@@ -44,11 +84,12 @@ pub fn ink_tile(b: Brush, x: u16, y: u16) -> Tile
     if b.bits {
         let row = wide(y - b.y1);
         let word = b.rows[row];
-        let bit = (word >> ((x - b.x1) as u64)) % 2;
+        let i = x - b.x1;
+        let bit = bit_at(word, i);
         return Tile {
-            left: x,
+            left: b.x1 + same_left(word, bit, i),
             bottom: y,
-            right: x + 1,
+            right: b.x1 + same_right(word, bit, i + 1, b.x2 - b.x1),
             top: y + 1,
             kind: bit as u16,
         };
