@@ -1,21 +1,20 @@
--- The marks and the errors of one piece: what the steps of marking them are handed and what they make. A calm piece has no mark; where none is and no error is recorded near, the errors stay.
+-- The marks and the errors of one piece: what the steps of marking them are handed and what they make. A calm piece has no mark; where the errors show a piece's marks already, they stay.
 use Prim.Native.Nat.{ℕ, zero, suc, _+_, _-_, _*_, _≤_, _<_, min}
 use native.Mathlib.Omega.{arith}
 use mathlib.Core.Bool.{Bool, true, cond}
 use mathlib.Core.Path.{_≡_, refl, sym, _∙_, ap, subst}
 use mathlib.Core.Logic.{⊎-elim}
 use mathlib.Core.List.{List}
-use lib.Dec.{eqb, leb}
+use lib.Dec.{leb}
 use lib.ListN.{length, getD, replicate, length-replicate}
 use lib.Pow.{pow-pos, shr-le}
-use borrow.Author.Tests.{eq-eqb, eqb-true, le-leb, lt-leb}
+use borrow.Author.Tests.{le-leb, lt-leb}
 use Rattle.plane.specs.declared.tile.Area.{Area}
-use Rattle.plane.specs.Area.{AreaIn, squaresIn}
-use Rattle.plane.specs.Picture.{Picture, bitOf, inArea, painted, stamped, table, tiles, written, sumTo}
+use Rattle.plane.specs.Area.{AreaIn}
+use Rattle.plane.specs.Picture.{Picture, bitOf, stamped, table, tiles, written}
 use Rattle.plane.specs.Plane.{Plane}
 use Rattle.plane.specs.Words.{IsTable, count, height, kinds, pictureOf, roomIn, width}
-use Rattle.plane.proofs.Basics.{bool-cases, lt-or-ge}
-use Rattle.plane.proofs.Counting.{sum-tight}
+use Rattle.plane.proofs.Basics.{lt-or-ge}
 use Rattle.plane.proofs.FromTable.{table-plane, tiles-agree}
 use Rattle.plane.proofs.Tables.{written-count}
 use Rattle.strips.specs.Brush.{Small}
@@ -24,46 +23,17 @@ use Rattle.paint.specs.Tables.{Paintable, PaintedOver}
 use Rattle.paint.proofs.Calls.{table-at}
 use Rattle.rules.specs.Words.{haloOf, rulesOf}
 use Rattle.rules.proofs.Vetted.{all-apart}
-use Rattle.rules.proofs.Window.{area-of, within}
+use Rattle.rules.proofs.Window.{area-of}
 use Rattle.piece.specs.Calm.{Calm}
 use Rattle.piece.specs.Remark.{BlockIn, Checkable, nearArea, nearBlock, remarked}
-use Rattle.piece.specs.Rows.{PieceRows, NoMarks}
+use Rattle.piece.specs.Rows.{PieceRows}
+use Rattle.piece.specs.Shown.{Readable, ShowsRows}
 use Rattle.piece.proofs.Calms.{calm-free}
-use Rattle.piece.proofs.Remarks.{block-in, halo-in, near-in, near-same, near-small, rules-near, stamped-piece, unmarked-piece}
-use Rattle.checker.specs.CheckSteps.{MarkIn, NothingMarked, Remade, errorsNear}
+use Rattle.piece.proofs.Remarks.{block-in, halo-in, near-in, near-same, near-small, rules-near, stamped-piece}
+use Rattle.piece.proofs.ShownRows.{shown-stamped}
+use Rattle.checker.specs.CheckSteps.{MarkIn, Remade, errorsNear}
 use Rattle.sheet.proofs.Paints.{made, paintable-room}
 use Rattle.sheet.proofs.Shapes.{marks-area}
-
--- ---- an area without a type
--- a sum that is 0 has no other term
-none-of : (n : ℕ) (g : ℕ → ℕ) → sumTo n g ≡ 0 → (i : ℕ) → i < n → g i ≡ 0
-none-of n g e i u = omega (arith, sum-tight n (λ j. 0) g (λ j v. omega arith) (omega (arith, e)) i u)
-
--- an area that counts no squares of a type has none
-none-in : (p : Picture) (k : ℕ) (a : Area) → squaresIn p k a ≡ 0 → (x y : ℕ) → p x y ≡ k → inArea a x y ≡ true → ⊥
-unfolding squaresIn
-none-in p k a e x y f s =
-    let q = within a x y s in
-    let row = none-of (a .y2 - a .y1) (λ j. sumTo (a .x2 - a .x1) (λ i. cond (eqb (p (a .x1 + i) (a .y1 + j)) k) 1 0)) e (y - a .y1) (omega (arith, q .low, q .high)) in
-    let one = none-of (a .x2 - a .x1) (λ i. cond (eqb (p (a .x1 + i) (a .y1 + (y - a .y1))) k) 1 0) row (x - a .x1) (omega (arith, q .left-of, q .right-of)) in
-    let cx : a .x1 + (x - a .x1) ≡ x = omega (arith, q .left-of) in
-    let cy : a .y1 + (y - a .y1) ≡ y = omega (arith, q .low) in
-    let at : p (a .x1 + (x - a .x1)) (a .y1 + (y - a .y1)) ≡ k = (λ i. p (cx i) (cy i)) ∙ f in
-    let yes = ap (λ (b : Bool). cond {A = ℕ} b 1 0) (eq-eqb (p (a .x1 + (x - a .x1)) (a .y1 + (y - a .y1))) k at) in
-    omega (arith, one, yes)
-
--- marks without a mark in an area are as if it were cleared
-clear-same : {c : ℕ} {ws : List ℕ} (a : Area) → IsTable c ws → kinds ws ≡ 2 → squaresIn (pictureOf ws) 1 a ≡ 0 → (x y : ℕ) → x < width ws → y < height ws → painted (pictureOf ws) a 0 x y ≡ pictureOf ws x y
-unfolding painted
-clear-same {c} {ws} a T two e x y u v = ⊎-elim
-    (λ s. rw s (⊎-elim
-    (λ (m : 0 < pictureOf ws x y). absurd (none-in (pictureOf ws) 1 a e x y (omega (arith, two, T .types x y u v)) s))
-    (λ (m : pictureOf ws x y ≤ 0). omega arith) (lt-or-ge 0 (pictureOf ws x y))))
-    (λ s. rw s refl) (bool-cases (inArea a x y))
-
--- the two looks at a piece's marks
-pub both-clear : {ws rows : List ℕ} {n : ℕ} (a : Area) (b : Bool) → (b ≡ true → NoMarks rows) → b ≡ true → n ≡ squaresIn (pictureOf ws) 1 a → eqb n 0 ≡ true → NothingMarked ws a rows
-both-clear {n = n} a b f e g z = record { none = f e; clear = sym g ∙ eqb-true n 0 z }
 
 -- ---- the marks of a calm piece
 -- they are rows of zeros
@@ -158,6 +128,9 @@ module _ {ms es work rules : List ℕ} {used bx by : ℕ} (P : MarkIn ms es work
       let s = piece-halo e in
       subst (λ (b : Area). Small b) (sym f) (record { columns = near-small (width ms) k bx s; rows = near-small (height ms) k by s })
 
+  pub errors-readable : {k : ℕ} {a : Area} → k ≡ haloOf rules used → a ≡ nearArea (width ms) (height ms) k bx by → Readable es a
+  errors-readable {k} e f = let s = errors-small e f in record { plane = errors-plane; two = P .marks .two; inside = errors-area k f; columns = s .columns; rows = s .rows }
+
   -- ---- what they make
   module _ {k : ℕ} {a : Area} {rows : List ℕ} (e : k ≡ haloOf rules used) (f : a ≡ nearArea (width ms) (height ms) k bx by)
       (R : PieceRows (width ms) (height ms) (pictureOf ms) (rulesOf rules used) k bx by rows) where
@@ -172,11 +145,6 @@ module _ {ms es work rules : List ℕ} {used bx by : ℕ} (P : MarkIn ms es work
         subst (λ (q : Picture). Remade es q r vs) for-halo
         (agree-to (λ x y u v. ap (λ (b : Area). stamped (pictureOf es) b rows x y) f ∙ stamped-piece (pictureOf es) R x y (omega (arith, M .wide)) (omega (arith, M .tall))) W)
 
-    -- where no error is recorded near a piece without a mark, the errors stay
-    pub errors-stay : NothingMarked es a rows → Remade es (errorsNear ms es rules used bx by) true es
-    errors-stay N =
-        let M = P .marks in
-        subst (λ (q : Picture). Remade es q true es) for-halo
-        (agree-to (λ x y u v. sym (clear-same a (M .table) (M .two) (N .clear) x y u v)
-        ∙ (ap (λ (b : Area). painted (pictureOf es) b 0 x y) f ∙ unmarked-piece (pictureOf es) R (N .none) x y (omega (arith, M .wide)) (omega (arith, M .tall))))
-        (itself (M .table)))
+    -- where the errors show its rows already, they stay
+    pub errors-stay : ShowsRows (pictureOf es) a rows → Remade es (errorsNear ms es rules used bx by) true es
+    errors-stay S = as-errors (agree-to (λ x y u v. sym (shown-stamped (pictureOf es) a rows S x y)) (itself (P .marks .table)))

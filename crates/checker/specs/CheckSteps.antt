@@ -5,8 +5,6 @@ use mathlib.Core.Path.{_≡_}
 use mathlib.Core.List.{List}
 use lib.Dec.{eqb, leb}
 use lib.ListN.{length, replicate}
-use Rattle.plane.specs.declared.tile.Area.{Area}
-use Rattle.plane.specs.Area.{squaresIn}
 use Rattle.plane.specs.Picture.{Picture, tiles}
 use Rattle.plane.specs.Refusal.{Lowest}
 use Rattle.plane.specs.Words.{width, height, kinds, pictureOf, roomIn, TableLength, PictureTable}
@@ -16,7 +14,6 @@ use Rattle.rules.specs.Words.{rulesOf, haloOf}
 use Rattle.piece.specs.declared.waits.Block.the-variants.{At}
 use Rattle.piece.specs.Pieces.{blocks}
 use Rattle.piece.specs.Remark.{remarked}
-use Rattle.piece.specs.Rows.{NoMarks}
 use Rattle.piece.specs.Sweep.{swept}
 use Rattle.checker.specs.declared.check.Ran.{Ran}
 use Rattle.checker.specs.Check.{Run, stopped, checkRun, lowestOf, ranCheck, checkedPiece, pieceFits, checkRefusals, Checked}
@@ -50,11 +47,6 @@ pub record MarkIn (material errors work rules : List ℕ) (used bx by : ℕ) : T
 -- the picture of the errors afterwards
 abbrev pub errorsNear : List ℕ → List ℕ → List ℕ → ℕ → ℕ → ℕ → Picture
 errorsNear material errors rules used bx by = remarked (width material) (height material) (pictureOf material) (rulesOf rules used) (haloOf rules used) bx by (pictureOf errors)
-
--- a piece without a mark, in an area without errors
-pub record NothingMarked (errors : List ℕ) (near : Area) (rows : List ℕ) : Type 0 where
-  pub none : NoMarks rows
-  pub clear : squaresIn (pictureOf errors) 1 near ≡ 0
 
 -- a table that is to show the picture q: has it room, and its words afterwards
 pub record Remade (ws : List ℕ) (q : Picture) (r : Bool) (after : List ℕ) : Type 0 where

@@ -5,27 +5,23 @@ use paint::table::stamp_table;
 use paint::table::tiles_after;
 use piece::calm::calm;
 use piece::rows::near_area;
-use piece::rows::no_marks;
 use piece::rows::piece_rows;
+use piece::shown::shows_rows;
 use piece::waits::Block;
 use piece::waits::lowest_waiting;
 use piece::waits::next_waiting;
 use piece::waits::row_of;
 use piece::waits::waiting_pieces;
-use plane::area::count_squares;
 use plane::tile::Area;
 use plane::words::room_in;
 use plane::words::wide;
 use rules::list::halo_of;
 use sheet::shape::Tested;
 use sheet::shape::ready;
-ghost use mathlib.Core.Bool.{true};
 ghost use mathlib.Core.Path.{_≡_};
 ghost use Prim.Native.Nat.{_+_, _-_, _≤_};
 ghost use lib.ListN.{length};
-ghost use Rattle.plane.specs.Area.{AreaIn};
 ghost use Rattle.plane.specs.Picture.{painted, stamped};
-ghost use Rattle.plane.specs.Plane.{Plane};
 ghost use Rattle.plane.specs.Words.{width, height, kinds, count, pictureOf, roomIn};
 ghost use Rattle.strips.specs.Brush.{Small};
 ghost use Rattle.paint.specs.Tables.{Paintable};
@@ -37,7 +33,7 @@ ghost use Rattle.sheet.specs.Answers.{readyNumber, readyPlace};
 ghost use Rattle.sheet.specs.Layout.{lent};
 ghost use Rattle.checker.specs.Check.{Checked};
 ghost use Rattle.checker.specs.Answers.{checkNumber, checkPlace, checkDone, checkLeft};
-ghost use Rattle.checker.specs.CheckSteps.{Runs, NothingMarked, Remade, MarkIn, errorsNear, PieceIn, PieceTried, TurnIn, Turned, RowMarked, RanTo, RanPieces, CheckTested, CheckedBut};
+ghost use Rattle.checker.specs.CheckSteps.{Runs, Remade, MarkIn, errorsNear, PieceIn, PieceTried, TurnIn, Turned, RowMarked, RanTo, RanPieces, CheckTested, CheckedBut};
 
 // The answer of check: the pieces done and left, also where a piece found no room (Full); or what the tests refuse.
 pub enum CheckAnswer {
@@ -72,17 +68,6 @@ fn near_marks(material: &[u16], rules: &[u16], used: usize, bx: u16, by: u16, k:
     piece_rows(material, rules, used, bx, by, k)
 }
 
-// Has the piece no mark, and the area near it no error recorded?
-fn nothing_marked(errors: &[u16], near: Area, rows: [u64; 48]) -> bool
-    requires { ⌜ Plane (now errors) × AreaIn (width (now errors)) (height (now errors)) near ⌝ }
-    ensures { λ r. ⌜ (r ≡ true → NothingMarked (now (errors .entry)) near rows) ⌝ }
-{
-    if no_marks(rows) {
-        return count_squares(errors, 1, near) == 0;
-    }
-    false
-}
-
 // Marks the errors of the area near; false, with errors as they were, where they have no room.
 fn mark_errors(
     errors: &mut [u16],
@@ -107,8 +92,8 @@ fn end_waiting(waiting: &mut [u16], block: Area, work: &mut [u16], room: usize) 
     paint_table(waiting, block, 0, work, room) <= room
 }
 
-// Marks the errors of the piece at column bx, row by; false, with errors as they were, where they have no room. A piece without a mark,
-// where no error is recorded, leaves them alone.
+// Marks the errors of the piece at column bx, row by; false, with errors as they were, where they have no room. Where its marks are
+// recorded already, most often by the pieces beside it, it leaves them alone.
 fn remark(
     material: &[u16],
     errors: &mut [u16],
@@ -124,7 +109,7 @@ fn remark(
     let k = halo_of(rules, used);
     let near = near_area(material[1], material[2], bx, by, k);
     let rows = near_marks(material, rules, used, bx, by, k);
-    if nothing_marked(errors, near, rows) {
+    if shows_rows(errors, near, rows) {
         return true;
     }
     mark_errors(errors, near, rows, work, room_in(material.len()))

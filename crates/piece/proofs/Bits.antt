@@ -22,11 +22,12 @@ from-end {m} {at} {n} = record { small = pow-pos (n - n); bits = λ i l. absurd 
 bit-low : (r b : ℕ) → b < 2 → bitOf (2 * r + b) 0 ≡ b
 bit-low r b l = omega arith
 
+-- a higher bit is a bit of the half
+pub bit-half : (n i : ℕ) → bitOf n (suc i) ≡ bitOf (n / 2) i
+bit-half n i = let f : 1 + i ≡ suc i = omega arith in ap (λ z. z % 2) (ap (λ z. n / 2 ^ z) (sym f) ∙ sym (shr-shr n 1 i))
+
 bit-up : (r b i : ℕ) → b < 2 → bitOf (2 * r + b) (suc i) ≡ bitOf r i
-bit-up r b i l =
-    let e : (2 * r + b) / 2 ≡ r = omega arith in
-    let f : 1 + i ≡ suc i = omega arith in
-    ap (λ z. z % 2) (ap (λ z. (2 * r + b) / 2 ^ z) (sym f) ∙ sym (shr-shr (2 * r + b) 1 i) ∙ ap (λ z. z / 2 ^ i) e)
+bit-up r b i l = let e : (2 * r + b) / 2 ≡ r = omega arith in bit-half (2 * r + b) i ∙ ap (λ z. bitOf z i) e
 
 pub from-more : {m : List ℕ} {at n j r b : ℕ} → 0 < j → j ≤ n → RowFrom m at n j r → b ≡ getD m (at + (j - 1)) 0 % 2 → b < 2 → RowFrom m at n (j - 1) (2 * r + b)
 from-more {m} {at} {n} {j} {r} {b} pos most q e l = record {

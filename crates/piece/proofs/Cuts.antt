@@ -22,6 +22,7 @@ use Rattle.rules.proofs.Window.{Within, within, area-of}
 use Rattle.piece.specs.Fill.{Filled, Drawn, rowOf}
 use Rattle.piece.specs.Cut.{CutOut, Cuttable, RowCut, placed, placedArea, around}
 use Rattle.piece.proofs.Truths.{is-false}
+use Rattle.piece.proofs.Tiles.{tile-end, tile-shows}
 use Rattle.piece.proofs.Fills.{drawn-none, drawn-here, drawn-as, drawn-right, drawn-up, drawn-row}
 
 -- the part of a local picture that is cut out, and the window in the plane
@@ -57,8 +58,7 @@ row-start l = record {
 -- tile j, which holds the square at x, shows one type up to r
 module _ {ws : List ℕ} (P : Plane ws) {bx by x1 y x2 y2 : ℕ} (C : Cuttable (width ws) (height ws) bx by (area x1 y x2 y2)) (j : ℕ) {x r : ℕ} (N : Names ws j x y) (l : x1 ≤ x) (g : x ≤ r) (e : r ≤ word ws j 2) (f : r ≤ x2) where
   held : (x′ z : ℕ) → x ≤ x′ → x′ < r → y ≤ z → z < word ws j 3 → pictureOf ws x′ z ≡ word ws j 4
-  held x′ z p q s t = shown ws P j x′ z (N .counted)
-      (record { from-left = omega (arith, N .held .from-left); to-right = omega arith; from-bottom = omega (arith, N .held .from-bottom); to-top = t })
+  held x′ z p q s t = tile-shows P j N x′ z p (omega arith) s t
 
   row-drawn : {m m₁ : List ℕ} → length m ≡ 6724 → Filled (word ws j 4) (placed by y * 82 + placed bx x) (placed by y * 82 + placed bx r) m m₁
       → Drawn (around bx by (pictureOf ws)) (area (placed bx x) (placed by y) (placed bx r) (placed by y + 1)) m m₁
@@ -84,13 +84,6 @@ module _ {ws : List ℕ} (P : Plane ws) {bx by x1 y x2 y2 : ℕ} (C : Cuttable (
       go : (x′ z : ℕ) → x1 ≤ x′ → x′ < r → y ≤ z → z < min top (word ws j 3) → (x′ < x) ⊎ (x ≤ x′) → pictureOf ws x′ z ≡ pictureOf ws x′ y
       go x′ z a b u v (inl s) = c .same x′ z a s u (omega arith)
       go x′ z a b u v (inr s) = held x′ z s b u (omega arith) ∙ sym (held x′ y s b (omega arith) (N .held .to-top))
-
--- the tile that the code has read reaches past x
-pub tile-end : {ws : List ℕ} {i j x y x2 r : ℕ} {t : Tile} → Names ws i x y → j ≡ i → t ≡ tileOf ws j → r ≡ min (t .right) x2 → x < x2 → (x < r) × (r ≤ x2)
-tile-end {ws} {i} {j} {x} {y} {x2} {r} {t} N e f g l =
-    let a : word ws j 2 ≡ word ws i 2 = ap (λ (n : ℕ). word ws n 2) e in
-    let b : t .right ≡ word ws j 2 = ap (λ (s : Tile). s .right) f in
-    (omega (arith, N .held .to-right), omega arith)
 
 -- and fills its part of the row
 pub row-more : {ws : List ℕ} {bx by x1 y x2 y2 i j x r top n u v z : ℕ} {t : Tile} {m m₁ m₂ : List ℕ} → Plane ws → Cuttable (width ws) (height ws) bx by (area x1 y x2 y2)

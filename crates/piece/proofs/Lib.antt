@@ -13,6 +13,7 @@ pub mod Edges
 pub mod Chains
 pub mod Views
 pub mod Bits
+pub mod ShownRows
 pub mod Remarks
 pub mod Calms
 pub mod Sweeps

@@ -3,15 +3,11 @@ use Prim.Native.Nat.{ℕ, _+_, _-_, _*_, _%_, _<_, _≤_}
 use native.Mathlib.Omega.{arith}
 use mathlib.Core.Bool.{Bool, true, false, cond}
 use mathlib.Core.List.{List}
-use mathlib.Core.Logic.{⊎-elim}
 use mathlib.Core.Path.{_≡_, refl, sym, _∙_, ap, subst}
-use lib.ListN.{length, getD, replicate, length-replicate, getD-replicate, List·getD-eq-default}
-use lib.Pow.{shr-le}
-use Rattle.plane.specs.declared.tile.Area.{Area}
-use Rattle.plane.specs.Picture.{Picture, area, inArea, bitOf, painted, stamped}
+use lib.ListN.{getD, replicate, length-replicate, getD-replicate}
+use Rattle.plane.specs.Picture.{Picture, area, inArea, bitOf, stamped}
 use Rattle.plane.specs.Words.{width, height, kinds, pictureOf}
 use Rattle.plane.specs.Area.{AreaIn}
-use Rattle.plane.proofs.Basics.{lt-or-ge}
 use Rattle.rules.specs.declared.rule.Rule.{Rule}
 use Rattle.rules.specs.Some.{someOf, Every}
 use Rattle.rules.specs.Words.{soundAt, ruleAt, rulesOf, Reaches}
@@ -23,7 +19,7 @@ use Rattle.piece.specs.Cut.{CutOut}
 use Rattle.piece.specs.Edge.{Marked, flat}
 use Rattle.piece.specs.Near.{Ruled, sweeps}
 use Rattle.piece.specs.Remark.{nearBlock, fullMark, remarked, lowEnd, highEnd, nearArea, BlockIn, Checkable}
-use Rattle.piece.specs.Rows.{BitRows, PieceRows, NoMarks}
+use Rattle.piece.specs.Rows.{BitRows, PieceRows}
 use Rattle.piece.proofs.Exchange.{sweeps-is}
 use Rattle.piece.proofs.Views.{cut-forbids}
 
@@ -176,20 +172,3 @@ stamped-piece {w} {h} {p} {rs} {k} {bx} {by} {rows} e q x y lx ly = go (inArea (
     go false f =
         ap (λ z. cond z (bitOf (getD rows (y - lowEnd k by) 0) (x - lowEnd k bx)) (e x y)) f
         ∙ ap (λ z. cond z (fullMark w h p rs x y) (e x y)) (sym f ∙ same)
-
--- ---- a piece without a mark
--- rows of zeros set an area to 0
-stamped-none : (e : Picture) (a : Area) (rows : List ℕ) → length rows ≡ 48 → NoMarks rows → (x y : ℕ) → stamped e a rows x y ≡ painted e a 0 x y
-unfolding stamped painted
-stamped-none e a rows l z x y = ap (λ n. cond (inArea a x y) n (e x y)) (bit (getD rows (y - a .y1) 0) (x - a .x1) (row (y - a .y1)))
-  where
-    row : (i : ℕ) → getD rows i 0 ≡ 0
-    row i = ⊎-elim (λ (u : i < 48). z i u) (λ (u : 48 ≤ i). List·getD-eq-default rows 0 {n = i} (omega arith)) (lt-or-ge i 48)
-
-    bit : (n k : ℕ) → n ≡ 0 → bitOf n k ≡ 0
-    bit n k f = omega (arith, shr-le n k)
-
--- so a check of such a piece clears the squares near its block
-pub unmarked-piece : {w h : ℕ} {p : Picture} {rs : List Rule} {k bx by : ℕ} {rows : List ℕ} (e : Picture) → PieceRows w h p rs k bx by rows → NoMarks rows → (x y : ℕ) → x < w → y < h
-    → painted e (nearArea w h k bx by) 0 x y ≡ remarked w h p rs k bx by e x y
-unmarked-piece {w} {h} {p} {rs} {k} {bx} {by} {rows} e q z x y lx ly = sym (stamped-none e (nearArea w h k bx by) rows (q .long) z x y) ∙ stamped-piece e q x y lx ly

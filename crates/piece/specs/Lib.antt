@@ -9,5 +9,6 @@ pub mod Near
 pub mod Remark
 pub mod Sweep
 pub mod Rows
+pub mod Shown
 pub mod Calm
 pub mod Worked

@@ -25,7 +25,3 @@ pub record PieceRows (w h : ℕ) (p : Picture) (rs : List Rule) (k bx by : ℕ) 
       → bitOf (getD rows (y - lowEnd k by) 0) (x - lowEnd k bx) ≡ fullMark w h p rs x y
   pub narrow : (i : ℕ) → i < highEnd h k by - lowEnd k by → getD rows i 0 < 2 ^ (highEnd w k bx - lowEnd k bx)
   pub rest : (i : ℕ) → highEnd h k by - lowEnd k by ≤ i → getD rows i 0 ≡ 0
-
--- no square near the block has a mark
-abbrev pub NoMarks : List ℕ → Type 0
-NoMarks rows = (i : ℕ) → i < 48 → getD rows i 0 ≡ 0

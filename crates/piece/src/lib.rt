@@ -5,4 +5,5 @@ pub mod edge;
 pub mod fill;
 pub mod near;
 pub mod rows;
+pub mod shown;
 pub mod waits;

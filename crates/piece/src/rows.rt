@@ -3,13 +3,12 @@ use crate::cut::cut;
 use crate::near::mark_near;
 use plane::tile::Area;
 use plane::words::wide;
-ghost use mathlib.Core.Bool.{true};
 ghost use mathlib.Core.Path.{_≡_};
 ghost use Prim.Native.Nat.{ℕ, _+_, _-_, _*_, _%_, _≤_, _<_, min};
 ghost use Rattle.plane.specs.Words.{width, height, pictureOf};
 ghost use Rattle.rules.specs.Words.{rulesOf};
 ghost use Rattle.piece.specs.Remark.{lowEnd, highEnd, nearArea, BlockIn, Checkable};
-ghost use Rattle.piece.specs.Rows.{BitRow, BitRows, PieceRows, NoMarks};
+ghost use Rattle.piece.specs.Rows.{BitRow, BitRows, PieceRows};
 
 // The first square within k of block b, in one direction.
 fn low_end(b: u16, k: u16) -> u16
@@ -130,17 +129,4 @@ pub fn piece_rows(t: &[u16], rules: &[u16], used: usize, bx: u16, by: u16, k: u1
     let mut marks = [0u8; 6724];
     mark_near(&kinds, &mut marks, rules, used, first_of(k), last_of(k));
     bits_of(&marks, x0, y0, nx, ny)
-}
-
-// Has no square near the block a mark?
-pub fn no_marks(rows: [u64; 48]) -> bool
-    ensures { λ r. ⌜ (r ≡ true → NoMarks rows) ⌝ }
-{
-    let mut none = true;
-    let mut i: usize = 0;
-    while i < 48 {
-        none = none & (rows[i] == 0);
-        i += 1;
-    }
-    none
 }

@@ -1,5 +1,5 @@
--- What each step is handed follows from the piece whose errors are marked; where nothing is to be marked the errors stay, else the stamped picture is the piece's.
-use Rattle.checker.proofs.MarkErrors.{piece-words, piece-listed, piece-checkable, piece-block, piece-halo, errors-plane, errors-area, errors-paintable, errors-small, as-errors, errors-stay}
+-- What each step is handed follows from the piece whose errors are marked; where the marks are recorded already the errors stay, else the stamped picture is the piece's.
+use Rattle.checker.proofs.MarkErrors.{piece-words, piece-listed, piece-checkable, piece-block, piece-halo, errors-readable, errors-paintable, errors-small, as-errors, errors-stay}
 use mathlib.Core.Path.{sym, _∙_}
 use native.Mathlib.Omega.{arith}
 use borrow.Author.Needs.{needs}
@@ -21,14 +21,14 @@ near-area-requires c κs = (piece-block (c .before .before .before .before .befo
 near-marks-requires : tie.Need-near-marks-requires
 near-marks-requires c κs = piece-checkable (c .before .before .before .before .before .before .before .before .pre) (c .before .before .before .halo-of .ensures)
 
-nothing-marked-requires : tie.Need-nothing-marked-requires
-nothing-marked-requires c κs = (errors-plane (c .before .before .before .before .before .before .before .before .before .before .pre), errors-area (c .before .before .before .before .before .before .before .before .before .before .pre) _ (c .before .before .near-area .ensures))
+shows-rows-requires : tie.Need-shows-rows-requires
+shows-rows-requires c κs = errors-readable (c .before .before .before .before .before .before .before .before .before .before .pre) (c .before .before .before .before .before .halo-of .ensures) (c .before .before .near-area .ensures)
 
 same-length : tie.Need-same-length
 same-length c = search needs
 
 returns : tie.Need-returns
-returns c = errors-stay (c .before .before .before .before .before .before .before .before .before .before .before .before .pre) (c .before .before .before .before .before .before .before .halo-of .ensures) (c .before .before .before .before .near-area .ensures) (c .before .before .before .near-marks .ensures) (c .before .nothing-marked .ensures (c .if1 .taken))
+returns c = errors-stay (c .before .before .before .before .before .before .before .before .before .before .before .before .pre) (c .before .before .before .before .before .before .before .halo-of .ensures) (c .before .before .before .before .near-area .ensures) (c .before .before .before .near-marks .ensures) (c .before .shows-rows .ensures (c .if1 .taken))
 
 room-in-requires : tie.Need-room-in-requires
 room-in-requires c κs = search needs
@@ -54,7 +54,7 @@ remark-spec =
     shared-slice-read-near-area-2
     near-area-requires
     near-marks-requires
-    nothing-marked-requires
+    shows-rows-requires
     same-length
     returns
     room-in-requires
