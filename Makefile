@@ -23,7 +23,7 @@ STRICT = -std=c99 -Wall -Wextra -Wpedantic -Werror
 CFLAGS = -O2 -g
 
 NAIVE = build/naive_plane.o build/naive_rules.o build/naive_layout.o
-SOURCES := $(shell find $(addprefix crates/,plane ask strips stitches paint rules piece sheet checker layout) -name '*.rt' -o -name '*.antt')
+SOURCES := $(shell find $(addprefix crates/,plane ask slots strips stitches paint rules edges piece sheet checker layout) -name '*.rt' -o -name '*.antt')
 
 SIDE_BY_SIDE = paste crates/session/stdin - | awk -F '\t' '{ printf "%-24s %s\n", $$1, $$2 }'
 

@@ -14,7 +14,7 @@ use Rattle.rules.proofs.Blank.{blank-free}
 use Rattle.rules.proofs.Vetted.{all-apart}
 use Rattle.rules.proofs.Window.{area-of, halo-local, within}
 use Rattle.piece.specs.Remark.{fullMark, nearArea, nearBlock, remarked}
-use Rattle.piece.proofs.Truths.{is-false}
+use Rattle.edges.proofs.Truths.{is-false}
 use Rattle.layout.specs.History.{Far, GoodRules}
 
 -- two pictures agree in a window w by h

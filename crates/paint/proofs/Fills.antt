@@ -8,7 +8,7 @@ use lib.ListN.{length, getD, set, length-set, replicate, List·getD-eq-default, 
 use lib.Seq.{ext-getD}
 use Rattle.paint.specs.Tables.{Cleared, Copied, Headed, Zeroed}
 use Rattle.plane.proofs.Basics.{lt-or-ge}
-use Rattle.strips.proofs.Stores.{store-hit, store-miss}
+use Rattle.slots.proofs.Stores.{store-hit, store-miss}
 
 -- ---- the header
 module _ (ws : List ℕ) (a b c d : ℕ) (h : 4 ≤ length ws) where

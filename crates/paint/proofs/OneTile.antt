@@ -9,7 +9,7 @@ use Rattle.plane.specs.Picture.{space, table, tiles}
 use Rattle.plane.specs.Strips.{Strip, Strips}
 use Rattle.plane.specs.Words.{InRange, IsTable, upTo}
 use Rattle.strips.specs.Cover.{Built}
-use Rattle.strips.specs.Slots.{PutTile}
+use Rattle.slots.specs.Slots.{PutTile}
 use Rattle.plane.proofs.Tiling.{strips-are-tiles}
 use Rattle.paint.proofs.Whole.{made-table}
 

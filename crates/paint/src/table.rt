@@ -2,11 +2,11 @@
 // they are lent.
 use plane::tile::Area;
 use plane::tile::Tile;
+use slots::slots::put_tile;
 use stitches::restitch::restitch;
 use stitches::stitch::stitch;
 use strips::brush::Brush;
 use strips::cover::rebuild;
-use strips::slots::put_tile;
 ghost use mathlib.Core.Path.{_≡_};
 ghost use Prim.Native.Nat.{_+_, _*_, _<_, _≤_};
 ghost use lib.ListN.{length, replicate};

@@ -15,7 +15,7 @@ use Rattle.rules.proofs.Searches.{some-at, some-has, some-same}
 use Rattle.piece.specs.declared.waits.Block.{Block}
 use Rattle.piece.specs.declared.waits.Block.the-variants.{At, Nothing}
 use Rattle.piece.specs.Pieces.{blocks, someIn, inWindow, waitsAt, pieceWaits, lowestPiece, lowestBlock, Lowest, LowestOf}
-use Rattle.piece.proofs.Truths.{is-false}
+use Rattle.edges.proofs.Truths.{is-false}
 
 -- ---- a search in a block
 -- (x,y) is a square of the block at column bx, row by, and passes

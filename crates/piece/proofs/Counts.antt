@@ -14,7 +14,7 @@ use Rattle.rules.proofs.Window.{area-of, within}
 use Rattle.piece.specs.Pieces.{blocks, inWindow, pieceWaits, pieces, someIn, touched, touches, waitingPieces, waitsAt}
 use Rattle.piece.specs.Remark.{nearArea}
 use Rattle.piece.proofs.Blocks.{FoundIn, Waits, someIn-at, someIn-has, waits-at, waits-in, waits-inside}
-use Rattle.piece.proofs.Truths.{is-false}
+use Rattle.edges.proofs.Truths.{is-false}
 
 -- ---- pieces that pass
 pub bit-split : (a b c : Bool) → (a ≡ true → (b ≡ true) ⊎ (c ≡ true)) → cond a 1 0 ≤ cond b 1 0 + cond c 1 0

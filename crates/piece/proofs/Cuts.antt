@@ -12,8 +12,8 @@ use Rattle.plane.specs.Picture.{Picture, area, inArea}
 use Rattle.plane.specs.Words.{count, width, height, word, tileOf, pictureOf}
 use Rattle.plane.proofs.Basics.{lt-or-ge}
 use Rattle.plane.proofs.ToTable.{shown}
-use Rattle.piece.specs.Edge.{Small}
-use Rattle.piece.specs.Near.{Still}
+use Rattle.edges.specs.Edge.{Small}
+use Rattle.edges.specs.Near.{Still}
 use Rattle.piece.specs.Remark.{lowEnd, highEnd, nearArea}
 use Rattle.plane.specs.Plane.{Plane, Names}
 use Rattle.rules.specs.Forbid.{kindAt, outside}
@@ -21,7 +21,7 @@ use Rattle.rules.proofs.Searches.{same-truth}
 use Rattle.rules.proofs.Window.{Within, within, area-of}
 use Rattle.piece.specs.Fill.{Filled, Drawn, rowOf}
 use Rattle.piece.specs.Cut.{CutOut, Cuttable, RowCut, placed, placedArea, around}
-use Rattle.piece.proofs.Truths.{is-false}
+use Rattle.edges.proofs.Truths.{is-false}
 use Rattle.piece.proofs.Tiles.{tile-end, tile-shows}
 use Rattle.piece.proofs.Fills.{drawn-none, drawn-here, drawn-as, drawn-right, drawn-up, drawn-row}
 

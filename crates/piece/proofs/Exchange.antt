@@ -18,9 +18,9 @@ use Rattle.rules.specs.Sets.{member}
 use Rattle.rules.specs.Words.{ruleAt, rulesOf}
 use Rattle.rules.specs.Forbid.{edge, turns, reached, Way, right, left, up, down, waysBy, ways, forbids}
 use Rattle.rules.proofs.Searches.{some-at, some-has, or-left, or-right, or-cases, same-truth, someOf-cons, someOf-nil, some-or, some-same, some-suc, someOf-append}
-use Rattle.piece.specs.declared.edge.Turn.{Turn}
-use Rattle.piece.specs.Edge.{Steps, around, barred, one, deep, past, edgeAt, turnsAt, hit, goes, goesHit, flat, turn}
-use Rattle.piece.specs.Near.{Ruled, hits, swept, sweeps}
+use Rattle.edges.specs.declared.edge.Turn.{Turn}
+use Rattle.edges.specs.Edge.{Steps, around, barred, one, deep, past, edgeAt, turnsAt, hit, goes, goesHit, flat, turn}
+use Rattle.edges.specs.Near.{Ruled, hits, swept, sweeps}
 
 module _ (ks : List ℕ) (t : Turn) (q : ℕ) (r : Rule) where
   -- q sees the square `at` at i, j

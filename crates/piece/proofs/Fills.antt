@@ -13,7 +13,7 @@ use Rattle.plane.specs.Picture.{Picture, area, inArea}
 use Rattle.plane.proofs.Basics.{lt-or-ge, tf}
 use Rattle.rules.proofs.Window.{Within, within, area-of}
 use Rattle.piece.specs.Fill.{Filled, Drawn, rowOf}
-use Rattle.piece.proofs.Truths.{is-false}
+use Rattle.edges.proofs.Truths.{is-false}
 
 pub fill-start : {t from : ℕ} {m : List ℕ} → Filled t from from m m
 fill-start = record { long = refl; here = λ q l a b. absurd (omega arith); else = λ q f. refl }

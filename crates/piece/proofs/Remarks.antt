@@ -16,8 +16,8 @@ use Rattle.rules.proofs.Searches.{same-truth}
 use Rattle.rules.proofs.Vetted.{sound-apart, sound-deep, sound-side, halo-reaches, halo-small}
 use Rattle.rules.proofs.Window.{within, area-of}
 use Rattle.piece.specs.Cut.{CutOut}
-use Rattle.piece.specs.Edge.{Marked, flat}
-use Rattle.piece.specs.Near.{Ruled, sweeps}
+use Rattle.edges.specs.Edge.{Marked, flat}
+use Rattle.edges.specs.Near.{Ruled, sweeps}
 use Rattle.piece.specs.Remark.{nearBlock, fullMark, remarked, lowEnd, highEnd, nearArea, BlockIn, Checkable}
 use Rattle.piece.specs.Rows.{BitRows, PieceRows}
 use Rattle.piece.proofs.Exchange.{sweeps-is}

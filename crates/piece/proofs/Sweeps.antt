@@ -21,7 +21,7 @@ use Rattle.rules.proofs.Sets.{bit}
 use Rattle.rules.proofs.Searches.{same-truth}
 use Rattle.rules.proofs.Window.{Within, area-of, within}
 use Rattle.piece.proofs.Counts.{bit-le, bit-split}
-use Rattle.piece.proofs.Truths.{is-false}
+use Rattle.edges.proofs.Truths.{is-false}
 
 -- ---- strips are counted by their corners
 -- 1 where a strip begins at place i of row j

@@ -18,7 +18,7 @@ use Rattle.piece.specs.Remark.{nearArea}
 use Rattle.piece.specs.Sweep.{sweptArea, swept, WaitingRow}
 use Rattle.piece.proofs.Blocks.{waits-inside, lowest-block, block-lowest}
 use Rattle.piece.proofs.Counts.{idle-square, piece-has, piece-as}
-use Rattle.piece.proofs.Truths.{is-false}
+use Rattle.edges.proofs.Truths.{is-false}
 use Rattle.piece.proofs.Sweeps.{painted-in, painted-off}
 
 -- ---- a column of a row: 0 if its piece does not wait

@@ -14,7 +14,7 @@ use Rattle.rules.proofs.Searches.{someOf-every}
 use Rattle.rules.proofs.Local.{Agree, forbids-local}
 use Rattle.rules.proofs.Window.{area-of}
 use Rattle.piece.specs.Cut.{CutOut}
-use Rattle.piece.specs.Edge.{flat}
+use Rattle.edges.specs.Edge.{flat}
 
 module _ (k lo hi w h : ℕ) (p : Picture) (ox oy : ℕ) (ks : List ℕ) (cut : CutOut lo hi w h p ox oy ks) (most : hi ≤ 82) (x y u v : ℕ) (ex : 33 + x ≡ ox + u) (ey : 33 + y ≡ oy + v)
     (l : lo + k ≤ u) (r : u + k < hi) (b : lo + k ≤ v) (t : v + k < hi) where

@@ -19,7 +19,7 @@ use Rattle.piece.specs.Fill.{Filled}
 use Rattle.piece.specs.Pieces.{blocks, waitsAt, pieces, pieceWaits, waitingPieces, lowestBlock, Lowest}
 use Rattle.piece.specs.Sweep.{WaitingRow}
 use Rattle.piece.specs.Waits.{Crosses, keyOf, KeyOf, Least, MarksTile, Columns, sumOf}
-use Rattle.piece.proofs.Truths.{is-false}
+use Rattle.edges.proofs.Truths.{is-false}
 use Rattle.piece.proofs.Blocks.{someIn-has, someIn-at, waits-at, waits-in, waits-inside, block-lowest}
 
 module _ (ws : List ℕ) (P : Plane ws) where

@@ -3,9 +3,6 @@ pub mod Pieces
 pub mod Fill
 pub mod Waits
 pub mod Cut
-pub mod Edge
-pub mod Chains
-pub mod Near
 pub mod Remark
 pub mod Sweep
 pub mod Rows

@@ -1,6 +1,6 @@
 // The marks of the squares near a block, as rows of bits that a stamp takes as they are.
 use crate::cut::cut;
-use crate::near::mark_near;
+use edges::near::mark_near;
 use plane::tile::Area;
 use plane::words::wide;
 ghost use mathlib.Core.Path.{_≡_};

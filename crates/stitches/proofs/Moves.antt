@@ -13,7 +13,7 @@ use Rattle.plane.specs.Words.{Says, count, tileOf, word}
 use Rattle.stitches.specs.declared.shared.Shared.{Shared}
 use Rattle.stitches.specs.declared.stitch.Links.{Links}
 use Rattle.stitches.specs.Restitch.{Alike, AllKnown, KnownLinks, LinksIn, Moved, MovedLinks, SameFirst, SameLast, lost, shifts, stays}
-use Rattle.strips.specs.Slots.{Holder, Under}
+use Rattle.slots.specs.Slots.{Holder, Under}
 use Rattle.stitches.specs.Stitch.{LinksOf, StitchedTo, Tight, numberIn}
 use Rattle.plane.proofs.Basics.{lt-or-ge}
 use Rattle.stitches.proofs.Stitches.{before-some, links-are, number-hit}

@@ -10,11 +10,11 @@ use Rattle.plane.specs.Picture.{before, tileWords}
 use Rattle.plane.specs.Strips.{Box, Holds}
 use Rattle.plane.specs.Words.{tileOf, upTo, word}
 use Rattle.stitches.specs.declared.stitch.Links.{Links}
-use Rattle.strips.specs.Slots.{Sought}
+use Rattle.slots.specs.Slots.{Sought}
 use Rattle.stitches.specs.Stitch.{LinksOf, PutLinks, SameTiles, StitchedTo, Tight, numberIn, tilesTo, wordOf}
 use Rattle.plane.proofs.Basics.{lt-or-ge}
 use Rattle.plane.proofs.Index.{length-upTo, nth, nth-upTo, number-first, number-none}
-use Rattle.strips.proofs.Stores.{store-hit, store-miss, tile-agree}
+use Rattle.slots.proofs.Stores.{store-hit, store-miss, tile-agree}
 
 -- ---- the number of a tile that holds a square
 module _ (ws : List ℕ) (n x y : ℕ) where

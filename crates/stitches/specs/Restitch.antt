@@ -7,7 +7,7 @@ use Rattle.plane.specs.Plane.{Link}
 use Rattle.plane.specs.Words.{count, height, tileOf, width}
 use Rattle.stitches.specs.declared.shared.Shared.{Shared}
 use Rattle.stitches.specs.declared.stitch.Links.{Links}
-use Rattle.strips.specs.Slots.{Holder, Under}
+use Rattle.slots.specs.Slots.{Holder, Under}
 
 -- the first r tiles of the two are the same
 pub record SameFirst (ws vs : List ℕ) (k r : ℕ) : Type 0 where

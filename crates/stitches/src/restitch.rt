@@ -14,7 +14,7 @@ use plane::words::less;
 use plane::words::nth_tile;
 use plane::words::wide;
 use plane::words::word_at;
-use strips::slots::held_at;
+use slots::slots::held_at;
 ghost use mathlib.Core.Path.{_≡_};
 ghost use Prim.Native.Nat.{_+_, _-_, _*_, _<_, _≤_};
 ghost use lib.ListN.{length};
@@ -22,7 +22,7 @@ ghost use Rattle.plane.specs.Picture.{before};
 ghost use Rattle.plane.specs.Plane.{Link, Plane};
 ghost use Rattle.plane.specs.Strips.{Box};
 ghost use Rattle.plane.specs.Words.{Says, count, height, tileOf, width};
-ghost use Rattle.strips.specs.Slots.{Holder, Under};
+ghost use Rattle.slots.specs.Slots.{Holder, Under};
 ghost use Rattle.stitches.specs.Stitch.{numberIn, Tight, LinksOf, StitchedTo};
 ghost use Rattle.stitches.specs.Restitch.{Alike, AllKnown, KnownLinks, LinksIn};
 

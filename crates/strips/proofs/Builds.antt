@@ -13,7 +13,7 @@ use Rattle.plane.specs.Words.{count, height, pictureOf, tileOf, upTo, width}
 use Rattle.strips.specs.declared.brush.Brush.{Brush}
 use Rattle.strips.specs.Brush.{Given, goal}
 use Rattle.strips.specs.Cover.{AllUnder, Built, CoveredBy, CoversZone, Grown, Kept, LowTo, Untouched, Working, above-it, left-of, right-of}
-use Rattle.strips.specs.Slots.{Appended, Has}
+use Rattle.slots.specs.Slots.{Appended, Has}
 use Rattle.plane.proofs.Basics.{lt-or-ge}
 use Rattle.plane.proofs.Index.{length-upTo, mem-upTo, no-tile, nth, nth-upTo, ordered-upTo, upTo-mem}
 use Rattle.plane.proofs.Lists.{ordered-append}

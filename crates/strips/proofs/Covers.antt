@@ -12,7 +12,7 @@ use Rattle.plane.specs.Words.{tileOf}
 use Rattle.strips.specs.declared.cover.Spot.{Spot}
 use Rattle.strips.specs.Brush.{Upward}
 use Rattle.strips.specs.Cover.{AllUnder, CoveredBy, Covers, CoversRow, CoversZone, Grown, RowUnder, SpotOf, Working}
-use Rattle.strips.specs.Slots.{Sought, WithTile}
+use Rattle.slots.specs.Slots.{Sought, WithTile}
 use Rattle.plane.proofs.Basics.{lt-or-ge}
 use Rattle.strips.proofs.Grows.{grown-covered, grown-same, grown-then, grown-with, new-strip, not-all}
 use Rattle.strips.proofs.Stays.{holds-at}

@@ -11,7 +11,7 @@ use Rattle.plane.specs.Strips.{Holds, Ordered, Precedes, Run, Strip}
 use Rattle.plane.specs.Words.{tileOf, upTo}
 use Rattle.strips.specs.Brush.{Upward}
 use Rattle.strips.specs.Cover.{CoveredBy, Grown, Part}
-use Rattle.strips.specs.Slots.{Fresh, Has, Sorted, WithTile}
+use Rattle.slots.specs.Slots.{Fresh, Has, Sorted, WithTile}
 use Rattle.plane.proofs.Basics.{lt-or-ge}
 use Rattle.plane.proofs.Index.{length-upTo, ordered-upTo, upTo-mem}
 use Rattle.plane.proofs.Lists.{precedes-not}

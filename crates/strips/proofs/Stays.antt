@@ -11,10 +11,10 @@ use Rattle.plane.specs.Words.{count, height, tileOf, width}
 use Rattle.strips.specs.declared.brush.Brush.{Brush}
 use Rattle.strips.specs.Brush.{Given, Shown, Upward, after, brushTile, goal}
 use Rattle.strips.specs.Cover.{CoveredBy, Kept, LowTo, Part, SameStart, Untouched, above-it, below-it, left-of, right-of}
-use Rattle.strips.specs.Slots.{Has, Past, PlaceOf, PutTile}
+use Rattle.slots.specs.Slots.{Has, Past, PlaceOf, PutTile}
 use Rattle.plane.proofs.Basics.{lt-or-ge}
 use Rattle.strips.proofs.Pieces.{after-out}
-use Rattle.strips.proofs.Places.{first-too}
+use Rattle.slots.proofs.Places.{first-too}
 use Rattle.strips.proofs.Spans.{one-run}
 
 -- ---- two pictures that agree outside an area

@@ -10,7 +10,7 @@ use Rattle.plane.specs.Strips.{Strip, Holds}
 use Rattle.plane.specs.Words.{count, width, height, tileOf, upTo}
 use Rattle.strips.specs.declared.brush.Brush.{Brush}
 use Rattle.strips.specs.declared.cover.Spot.{Spot}
-use Rattle.strips.specs.Slots.{InOrderTo, Has}
+use Rattle.slots.specs.Slots.{InOrderTo, Has}
 use Rattle.strips.specs.Brush.{goal}
 
 -- ---- the tiles that are kept

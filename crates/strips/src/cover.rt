@@ -3,19 +3,19 @@
 // higher, which come after all these, are put behind. Where there are more strips than room, a count above the room says so.
 use crate::brush::Brush;
 use crate::runs::strip_at;
-use crate::slots::append;
-use crate::slots::find_low;
-use crate::slots::insert;
-use crate::slots::past;
-use crate::slots::place_of;
-use crate::slots::put_tile;
-use crate::slots::under;
 use plane::find::seek;
 use plane::tile::Tile;
 use plane::words::least;
 use plane::words::less;
 use plane::words::nth_tile;
 use plane::words::wide;
+use slots::slots::append;
+use slots::slots::find_low;
+use slots::slots::insert;
+use slots::slots::past;
+use slots::slots::place_of;
+use slots::slots::put_tile;
+use slots::slots::under;
 ghost use mathlib.Core.Path.{_≡_};
 ghost use Prim.Native.Nat.{_+_, _*_, _-_, _<_, _≤_, min};
 ghost use lib.ListN.{length};

@@ -2,4 +2,3 @@
 pub mod brush;
 pub mod cover;
 pub mod runs;
-pub mod slots;

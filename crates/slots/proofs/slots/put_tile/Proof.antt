@@ -1,0 +1,84 @@
+-- Five stores, by `put-is`.
+use native.Mathlib.Omega.{arith}
+use lib.ListN.{length-set}
+use borrow.Author.Needs.{needs}
+use Rattle.slots.proofs.Stores.{put-is}
+use Rattle.slots.proofs.slots.put_tile.Statement.{statement}
+use Rattle.slots.proofs.slots.put_tile.Tie as tie
+
+mul-at : tie.Need-mul-at
+mul-at c = search needs
+
+add-at : tie.Need-add-at
+add-at c = search needs
+
+mul-work : tie.Need-mul-work
+mul-work c = search needs
+
+slice-write-work : tie.Need-slice-write-work
+slice-write-work c = search needs
+
+add-work : tie.Need-add-work
+add-work c = search needs
+
+mul-work-2 : tie.Need-mul-work-2
+mul-work-2 c = search needs
+
+slice-write-work-2 : tie.Need-slice-write-work-2
+slice-write-work-2 c = simp length-set (omega arith)
+
+add-work-2 : tie.Need-add-work-2
+add-work-2 c = search needs
+
+mul-work-3 : tie.Need-mul-work-3
+mul-work-3 c = search needs
+
+slice-write-work-3 : tie.Need-slice-write-work-3
+slice-write-work-3 c = simp length-set (omega arith)
+
+add-work-3 : tie.Need-add-work-3
+add-work-3 c = search needs
+
+mul-work-4 : tie.Need-mul-work-4
+mul-work-4 c = search needs
+
+slice-write-work-4 : tie.Need-slice-write-work-4
+slice-write-work-4 c = simp length-set (omega arith)
+
+add-work-4 : tie.Need-add-work-4
+add-work-4 c = search needs
+
+mul-work-5 : tie.Need-mul-work-5
+mul-work-5 c = search needs
+
+slice-write-work-5 : tie.Need-slice-write-work-5
+slice-write-work-5 c = simp length-set (omega arith)
+
+same-length : tie.Need-same-length
+same-length c = search needs
+
+returns : tie.Need-returns
+returns c = put-is _ _ _ (c .pre)
+
+pub put-tile-spec : {M : Type 1} → statement M
+put-tile-spec =
+    tie.close
+    (tie.spec
+    mul-at
+    add-at
+    mul-work
+    slice-write-work
+    add-work
+    mul-work-2
+    slice-write-work-2
+    add-work-2
+    mul-work-3
+    slice-write-work-3
+    add-work-3
+    mul-work-4
+    slice-write-work-4
+    add-work-4
+    mul-work-5
+    slice-write-work-5
+    same-length
+    returns)

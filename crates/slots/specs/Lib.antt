@@ -1,0 +1,2 @@
+-- What the contracts of the working slice cite.
+pub mod Slots

@@ -1,0 +1,69 @@
+-- What is written does not depend on how the input is cut into chunks: a chunk leads on from where the bytes before it led.
+use Prim.Native.Nat.{ℕ, _+_, _<_, _≤_}
+use mathlib.Core.Path.{_≡_, refl, sym, ap, _∙_}
+use mathlib.Core.List.{List, [], _∷_, _++_, append-nil, append-assoc}
+use native.Mathlib.Numerals.{add-one}
+use lib.ListN.{length, getD, drop, drop-of-length-le}
+use lib.Seq.{drop-cons}
+use Rattle.talk.specs.Session.{Model, start, stepped, spoken, fed, output, lastWords, written, whole, exchange, exchanges, talk}
+use Rattle.talk.specs.Wire.{Passed, said, heardIn, saidIn, heard-append, said-append}
+
+pub fed-append : (m : Model) (xs ys : List ℕ) → fed m (xs ++ ys) ≡ fed (fed m xs) ys
+unfolding fed
+fed-append m [] ys = refl
+fed-append m (b ∷ xs) ys = fed-append (stepped m b) xs ys
+
+pub output-append : (m : Model) (xs ys : List ℕ) → output m (xs ++ ys) ≡ output m xs ++ output (fed m xs) ys
+unfolding fed output
+output-append m [] ys = refl
+output-append m (b ∷ xs) ys =
+    ap (λ (l : List ℕ). spoken m b ++ l) (output-append (stepped m b) xs ys) ∙ sym (append-assoc (spoken m b) (output (stepped m b) xs) (output (fed (stepped m b) xs) ys))
+
+-- ---- what passes over the wire, chunk after chunk
+pub exchanges-on : (m : Model) (cs : List (List ℕ)) (c : List ℕ) → exchanges m (cs ++ (c ∷ [])) ≡ exchanges m cs ++ exchange (fed m (whole cs)) c
+unfolding exchanges whole fed
+exchanges-on m [] c = refl
+exchanges-on m (d ∷ cs) c = ap (λ (l : List Passed). exchange m d ++ l) (exchanges-on (fed m d) cs c ∙ ap (λ (k : Model). exchanges (fed m d) cs ++ exchange k c) (sym (fed-append m d (whole cs))))
+
+pub whole-on : (cs : List (List ℕ)) (c : List ℕ) → whole (cs ++ (c ∷ [])) ≡ whole cs ++ c
+unfolding whole
+whole-on [] c = append-nil c
+whole-on (d ∷ cs) c = ap (λ (l : List ℕ). d ++ l) (whole-on cs c) ∙ sym (append-assoc d (whole cs) c)
+
+exchanges-heard : (m : Model) (cs : List (List ℕ)) → heardIn (exchanges m cs) ≡ whole cs
+unfolding exchanges whole heardIn
+exchanges-heard m [] = refl
+exchanges-heard m (c ∷ cs) = ap (λ (l : List ℕ). c ++ l) (exchanges-heard (fed m c) cs)
+
+exchanges-said : (m : Model) (cs : List (List ℕ)) → saidIn (exchanges m cs) ≡ output m (whole cs)
+unfolding exchanges whole saidIn output
+exchanges-said m [] = refl
+exchanges-said m (c ∷ cs) = ap (λ (l : List ℕ). output m c ++ l) (exchanges-said (fed m c) cs) ∙ sym (output-append m c (whole cs))
+
+-- what is heard in all is the chunks' bytes, and what is said in all is what the program writes on them, however the input was cut
+pub talk-heard : (cs : List (List ℕ)) → heardIn (talk cs) ≡ whole cs
+unfolding heardIn
+talk-heard cs = heard-append (exchanges start cs) (said (lastWords (fed start (whole cs))) ∷ []) ∙ (append-nil (heardIn (exchanges start cs)) ∙ exchanges-heard start cs)
+
+pub talk-said : (cs : List (List ℕ)) → saidIn (talk cs) ≡ written (whole cs)
+unfolding saidIn
+talk-said cs =
+    let last : List ℕ = lastWords (fed start (whole cs)) in
+    said-append (exchanges start cs) (said last ∷ []) ∙ (λ i. exchanges-said start cs i ++ append-nil last i)
+
+-- ---- a chunk from its i-th byte on
+pub fed-on : (m : Model) (l : List ℕ) (i : ℕ) → i < length l → fed m (drop i l) ≡ fed (stepped m (getD l i 0)) (drop (i + 1) l)
+unfolding fed
+fed-on m l i h = rw (drop-cons l i 0 h, add-one i)
+
+pub fed-end : (m : Model) (l : List ℕ) (i : ℕ) → length l ≤ i → fed m (drop i l) ≡ m
+unfolding fed
+fed-end m l i h = rw (drop-of-length-le l h)
+
+pub output-on : (m : Model) (l : List ℕ) (i : ℕ) → i < length l → output m (drop i l) ≡ spoken m (getD l i 0) ++ output (stepped m (getD l i 0)) (drop (i + 1) l)
+unfolding output
+output-on m l i h = rw (drop-cons l i 0 h, add-one i)
+
+pub output-end : (m : Model) (l : List ℕ) (i : ℕ) → length l ≤ i → output m (drop i l) ≡ []
+unfolding output
+output-end m l i h = rw (drop-of-length-le l h)
