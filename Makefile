@@ -44,7 +44,7 @@ test:
 	@mkdir -p build
 	@{ rt ci; echo $$? > build/ci.status; } 2>&1 | tee build/ci.log
 	@exit "$$(cat build/ci.status)"
-	@$(MAKE) --no-print-directory -s check-c valgrind
+	@$(MAKE) --no-print-directory -s -j2 check-c valgrind
 	@tail -n 1 build/ci.log
 
 fmt:
