@@ -13,14 +13,15 @@ use Rattle.plane.specs.Answers.{refusalNumber, number}
 use Rattle.plane.specs.Area.{AreaIn, squaresIn, tilesIn, SquaresCounted, TilesListed}
 use Rattle.plane.specs.Listing.{Fits, ListedTo, unlisted, listing, listed}
 use Rattle.plane.specs.Plane.{Names}
-use Rattle.plane.specs.Point.{SquareIn, vetRefusals, Vetted, sizedRefusals, SizedRight, Pointed}
+use Rattle.plane.specs.Point.{SquareIn, Pointed}
+use Rattle.vet.specs.Vet.{vetRefusals, Vetted, sizedRefusals, SizedRight}
 use Rattle.plane.specs.Refusal.{_unless_, Lowest, Outcome}
 use Rattle.ask.specs.Side.{SideOf, neighboursOf, Neighboured}
 use Rattle.plane.specs.Words.{width, height, tileOf, pictureOf}
 use Rattle.plane.proofs.Listings.{unwritten, written}
 use Rattle.plane.proofs.Lowests.{Rising, refused-first, passed-first, one-three}
 use Rattle.plane.proofs.ToTable.{named}
-use Rattle.plane.proofs.Vets.{passed-plane, sized-done}
+use Rattle.vet.proofs.Vets.{passed-plane, sized-done}
 
 -- ---- a question with two conditions more, on the place P and on the room, after a first step
 module _ (cs : List (ℕ × Type 0)) (P : Type 0) (ns out : List ℕ) {a : Answer} (r : Rising 0 cs) (T : Lowest cs (number a)) where

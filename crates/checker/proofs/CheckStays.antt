@@ -7,9 +7,10 @@ use mathlib.Core.List.{List}
 use Rattle.plane.specs.Refusal.{Lowest, ifDone}
 use Rattle.rules.specs.declared.rule.Rule.{Rule}
 use Rattle.rules.specs.Words.{haloOf, rulesOf}
-use Rattle.piece.specs.declared.waits.Block.{Block}
-use Rattle.piece.specs.declared.waits.Block.the-variants.{At, Nothing}
-use Rattle.checker.specs.Check.{CheckLeft, Checked, Run, afterBlock, checkRefusals, checkRun, fitsBlock, lowestOf, ranCheck, refusedCheck, turn}
+use Rattle.waits.specs.declared.waits.Block.{Block}
+use Rattle.waits.specs.declared.waits.Block.the-variants.{At, Nothing}
+use Rattle.sweep.specs.Run.{Run, afterBlock, checkRun, fitsBlock, lowestOf, turn}
+use Rattle.checker.specs.Check.{CheckLeft, Checked, checkRefusals, ranCheck, refusedCheck}
 use Rattle.sheet.specs.Layout.{Layout, SoundLayout}
 use Rattle.sheet.specs.Ready.{Fit}
 use Rattle.checker.proofs.Checkings.{passed-fit}

@@ -10,17 +10,17 @@ use Rattle.plane.specs.Words.{height, kinds, pictureOf, roomIn, width}
 use Rattle.paint.proofs.Whole.{table-size}
 use Rattle.rules.specs.declared.rule.Rule.{Rule}
 use Rattle.rules.specs.Words.{haloOf, rulesOf}
-use Rattle.piece.specs.declared.waits.Block.{Block}
-use Rattle.piece.specs.declared.waits.Block.the-variants.{At, Nothing}
-use Rattle.piece.specs.Pieces.{waitingPieces}
-use Rattle.piece.proofs.Blocks.{lowest-block}
+use Rattle.waits.specs.declared.waits.Block.{Block}
+use Rattle.waits.specs.declared.waits.Block.the-variants.{At, Nothing}
+use Rattle.waits.specs.Pieces.{waitingPieces}
+use Rattle.waits.proofs.Blocks.{lowest-block}
 use Rattle.piece.proofs.Counts.{cleared-pieces, no-pieces}
-use Rattle.checker.specs.Check.{Run, afterBlock, checkRun, checkedPiece, fitsBlock, lowestOf, pieceFits, pieceWaiting, turn, waitingOf}
-use Rattle.checker.specs.CheckSteps.{PieceIn}
+use Rattle.sweep.specs.Run.{Run, afterBlock, checkRun, checkedPiece, fitsBlock, lowestOf, pieceFits, pieceWaiting, turn, waitingOf}
+use Rattle.sweep.specs.Turn.{PieceIn}
 use Rattle.sheet.specs.Layout.{Layout}
 use Rattle.sheet.specs.Ready.{Fit}
-use Rattle.checker.proofs.OnePiece.{checked-fit, waiting-show}
-use Rattle.checker.proofs.Turns.{lowest-piece}
+use Rattle.sweep.proofs.OnePiece.{checked-fit, waiting-show}
+use Rattle.sweep.proofs.Turns.{lowest-piece}
 
 -- ---- what a piece keeps, a run keeps
 -- the lowest waiting piece of a fit layout, with room for it

@@ -1,2 +1,2 @@
-// Check: the waiting pieces of a layout, row by row.
+// Check: turn by turn, until none waits.
 pub mod check;

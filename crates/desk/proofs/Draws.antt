@@ -21,11 +21,11 @@ use Rattle.paint.specs.Paint.{paintedOf}
 use Rattle.paint.proofs.Whole.{table-size}
 use Rattle.rules.specs.Vetting.{ListLength, AllSound}
 use Rattle.rules.specs.Words.{rulesOf}
-use Rattle.sheet.specs.Create.{Created, fresh}
+use Rattle.drawing.specs.Create.{Created, fresh}
 use Rattle.sheet.specs.Layout.{Layout, room, OneLength, WorkLength, IsLayout}
-use Rattle.sheet.specs.Paint.{BothFit, Painted, paintedLayout}
+use Rattle.drawing.specs.Paint.{BothFit, Painted, paintedLayout}
 use Rattle.sheet.specs.Ready.{Fit}
-use Rattle.sheet.proofs.Stays.{create-makes, paint-keeps}
+use Rattle.drawing.proofs.Stays.{create-makes, paint-keeps}
 use Rattle.commands.specs.declared.reply.Reply.{Reply}
 use Rattle.commands.specs.declared.reply.Reply.the-variants as reply
 use Rattle.desk.specs.declared.state.Desk.{Desk}

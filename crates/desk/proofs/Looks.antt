@@ -22,7 +22,8 @@ use Rattle.sheet.specs.declared.report.ReportAnswer.{ReportAnswer}
 use Rattle.sheet.specs.declared.report.ReportAnswer.the-variants.{Found, Lengths, NoTable, BadRule, NoPlace, Full}
 use Rattle.sheet.specs.Answers.{reportNumber, foundBy}
 use Rattle.checker.specs.Answers.{checkNumber, checkPlace, checkDone, checkLeft}
-use Rattle.checker.specs.Check.{CheckLeft, CheckLength, Checked, checkRun, ranCheck, refusedCheck}
+use Rattle.sweep.specs.Run.{checkRun}
+use Rattle.checker.specs.Check.{CheckLeft, CheckLength, Checked, ranCheck, refusedCheck}
 use Rattle.sheet.specs.Layout.{Layout, RuleLength, IsLayout}
 use Rattle.sheet.specs.Ready.{Fit}
 use Rattle.sheet.specs.Report.{Findings, Reported, findings}

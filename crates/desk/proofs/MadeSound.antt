@@ -11,15 +11,15 @@ use borrow.Author.Tests.{leb-true, le-leb, lt-ltb, eq-eqb, eqb-true, eqb-false, 
 use Rattle.plane.specs.Picture.{joined}
 use Rattle.plane.proofs.Basics.{and-left, and-right, tf}
 use Rattle.rules.specs.declared.rule.Rule.{Rule}
-use Rattle.rules.specs.declared.macros.Made.{Made}
-use Rattle.rules.specs.Macros.{made, cell, row, rowIf, rows, width, widthSound, taken, second, halfSpacing, spacing, spacingSound}
+use Rattle.macros.specs.declared.macros.Made.{Made}
+use Rattle.macros.specs.Macros.{made, cell, row, rowIf, rows, width, widthSound, taken, second, halfSpacing, spacing, spacingSound}
 use Rattle.rules.specs.Sets.{member, within, others, both, disjoint}
 use Rattle.rules.specs.Some.{Every, some}
 use Rattle.rules.specs.Words.{sound}
-use Rattle.rules.proofs.Counts.{width-below}
+use Rattle.macros.proofs.Counts.{width-below}
 use Rattle.rules.proofs.Searches.{every-append, or-cases, or-left, some-false}
 use Rattle.rules.proofs.Sets.{others-member, others-below, sum-member}
-use Rattle.rules.proofs.Spaces.{Spaceable, spaceable, taken-both, taken-one}
+use Rattle.macros.proofs.Spaces.{Spaceable, spaceable, taken-both, taken-one}
 use Rattle.desk.proofs.RuleLists.{SoundFor}
 
 -- ---- every rule that is made

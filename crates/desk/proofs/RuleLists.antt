@@ -10,7 +10,7 @@ use lib.ListN.{length, getD, take, drop, length-append, List·getD-append}
 use lib.Seq.{sets, sets-eq, getD-drop, getD-take, length-take-le, drop-at}
 use Rattle.plane.specs.Picture.{joined}
 use Rattle.rules.specs.declared.rule.Rule.{Rule}
-use Rattle.rules.specs.Expansion.{appended}
+use Rattle.macros.specs.Expansion.{appended}
 use Rattle.rules.specs.Some.{Every}
 use Rattle.rules.specs.Vetting.{AllSound}
 use Rattle.rules.specs.Words.{ruleAt, rulesOf, ruleWords, wordsOf, sound, soundAt, reach, haloOf}

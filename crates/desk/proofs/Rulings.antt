@@ -13,10 +13,10 @@ use Rattle.plane.specs.Refusal.{_unless_}
 use Rattle.plane.specs.Words.{kinds}
 use Rattle.plane.proofs.Lowests.{left-as-is, refusal-positive}
 use Rattle.rules.specs.declared.rule.Rule.{Rule}
-use Rattle.rules.specs.declared.macros.MacroAnswer.{MacroAnswer}
-use Rattle.rules.specs.declared.macros.MacroAnswer.the-variants.{Used, No}
-use Rattle.rules.specs.Answers.{macroNumber, macroUsed}
-use Rattle.rules.specs.Expansion.{RuleList, Expanded, appended, refused}
+use Rattle.macros.specs.declared.macros.MacroAnswer.{MacroAnswer}
+use Rattle.macros.specs.declared.macros.MacroAnswer.the-variants.{Used, No}
+use Rattle.macros.specs.Made.{macroNumber, macroUsed}
+use Rattle.macros.specs.Expansion.{RuleList, Expanded, appended, refused}
 use Rattle.rules.specs.Some.{Every}
 use Rattle.rules.specs.Vetting.{ListLength, KindsIn}
 use Rattle.rules.specs.Words.{rulesOf, ruleWords}

@@ -8,8 +8,8 @@ use Rattle.plane.specs.declared.answer.Answer.{Answer}
 use Rattle.plane.specs.declared.answer.Answer.the-variants as answer
 use Rattle.plane.specs.Answers.{refusalNumber}
 use Rattle.rules.specs.Words.{rulesOf}
-use Rattle.rules.specs.declared.macros.MacroAnswer.{MacroAnswer}
-use Rattle.rules.specs.declared.macros.MacroAnswer.the-variants as macro
+use Rattle.macros.specs.declared.macros.MacroAnswer.{MacroAnswer}
+use Rattle.macros.specs.declared.macros.MacroAnswer.the-variants as macro
 use Rattle.sheet.specs.Layout.{Layout}
 use Rattle.sheet.specs.Ready.{Fit}
 use Rattle.commands.specs.declared.command.Command.{Command}

@@ -8,12 +8,13 @@ use Rattle.plane.specs.declared.tile.Area.{Area}
 use Rattle.plane.specs.Picture.{area}
 use Rattle.plane.specs.Words as words
 use Rattle.rules.specs.declared.rule.Rule as rules
-use Rattle.rules.specs.Macros.{width, widthSound, spacing, spacingSound}
+use Rattle.macros.specs.Macros.{width, widthSound, spacing, spacingSound}
 use Rattle.rules.specs.Words.{sound, reach}
-use Rattle.checker.specs.Check.{CheckLeft, checkRun, ranCheck}
-use Rattle.sheet.specs.Create.{fresh}
+use Rattle.sweep.specs.Run.{checkRun}
+use Rattle.checker.specs.Check.{CheckLeft, ranCheck}
+use Rattle.drawing.specs.Create.{fresh}
 use Rattle.sheet.specs.Layout.{Layout}
-use Rattle.sheet.specs.Paint.{paintedLayout}
+use Rattle.drawing.specs.Paint.{paintedLayout}
 use Rattle.sheet.specs.Report.{Findings, findings}
 use Rattle.commands.specs.declared.command.Command.{Command}
 use Rattle.commands.specs.declared.command.Command.the-variants.{New, Rule, Width, Spacing, Paint, Check, Report, Nothing}

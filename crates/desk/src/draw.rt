@@ -2,9 +2,9 @@
 use crate::state::Answered;
 use crate::state::Desk;
 use crate::state::take_answer;
+use drawing::create::create;
+use drawing::painting::paint;
 use plane::tile::Area;
-use sheet::create::create;
-use sheet::painting::paint;
 ghost use mathlib.Core.Bool.{true};
 ghost use mathlib.Core.List.{List};
 ghost use mathlib.Core.Path.{_≡_};

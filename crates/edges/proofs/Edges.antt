@@ -9,7 +9,7 @@ use lib.ListN.{getD}
 use lib.Dec.{eqb, leb, ltb}
 use borrow.Author.Tests.{eq-eqb, eqb-true, not-false, leb-true, ltb-true, le-leb, lt-ltb, le-ltb, lt-leb}
 use Rattle.plane.specs.Picture.{area, inArea}
-use Rattle.plane.proofs.Basics.{and-both, and-left, and-right}
+use Rattle.plane.proofs.Basics.{and-both, and-left, and-right, is-false, is-true}
 use Rattle.rules.specs.declared.rule.Rule.{Rule}
 use Rattle.rules.specs.Words.{ruleAt, Apart}
 use Rattle.rules.specs.Forbid.{right, left, up, down}
@@ -18,7 +18,7 @@ use Rattle.rules.proofs.Searches.{some-at, some-has, some-none, or-left, or-rig
 use Rattle.edges.specs.declared.edge.Turn.{Turn}
 use Rattle.edges.specs.Edge.{Marked, Steps, edgeAt, hit, goes, goesHit, turn}
 use Rattle.edges.specs.Near.{Ruled, flipE, flipW, hitFrom, across, acrossAll, edgesAt, edgesTo, edgesOver, Forward, Still, hits, swept, sweeps}
-use Rattle.edges.proofs.Truths.{is-false, is-true, four1, four2, four3, four4, split4, split8}
+use Rattle.edges.proofs.Truths.{four1, four2, four3, four4, split4, split8}
 use Rattle.edges.proofs.Marking.{keep, relabel, and-then, start, more, hit-none}
 
 -- ---- one direction

@@ -1,18 +1,9 @@
--- Truth values: what is not true is false and the other way round, and one of four or eight.
-use mathlib.Core.Bool.{Bool, true, false, _||_}
-use mathlib.Core.Path.{_≡_, refl}
+-- Truth values: one of four, and one of eight.
+use mathlib.Core.Bool.{Bool, true, _||_}
+use mathlib.Core.Path.{_≡_}
 use mathlib.Core.Logic.{⊎-elim}
 use Rattle.rules.proofs.Searches.{or-left, or-right, or-cases}
 
-pub is-false : (b : Bool) → (b ≡ true → ⊥) → b ≡ false
-is-false true f = absurd (f refl)
-is-false false f = refl
-
-pub is-true : (b : Bool) → (b ≡ false → ⊥) → b ≡ true
-is-true true f = refl
-is-true false f = absurd (f refl)
-
--- ---- one of four, and one of eight
 pub four1 : (a b c d : Bool) → a ≡ true → (a || b || c || d) ≡ true
 four1 a b c d e = or-left d (or-left c (or-left b e))
 

@@ -16,10 +16,11 @@ use Rattle.plane.proofs.FromTable.{tiles-agree}
 use Rattle.plane.proofs.Tiling.{tiles-few}
 use Rattle.paint.specs.Paint.{tableLike}
 use Rattle.rules.specs.Words.{haloOf, rulesOf}
-use Rattle.piece.specs.declared.waits.Block.{Block}
-use Rattle.piece.specs.declared.waits.Block.the-variants.{At, Nothing}
+use Rattle.waits.specs.declared.waits.Block.{Block}
+use Rattle.waits.specs.declared.waits.Block.the-variants.{At, Nothing}
 use Rattle.piece.proofs.Counts.{nothing-waits}
-use Rattle.checker.specs.Check.{CheckLeft, Checked, Run, afterBlock, checkRefusals, checkRun, checkedPiece, fitsBlock, lowestOf, pieceErrors, pieceFits, pieceWaiting, turn, waitingOf}
+use Rattle.sweep.specs.Run.{Run, afterBlock, checkRun, checkedPiece, fitsBlock, lowestOf, pieceErrors, pieceFits, pieceWaiting, turn, waitingOf}
+use Rattle.checker.specs.Check.{CheckLeft, Checked, checkRefusals}
 use Rattle.sheet.specs.Layout.{Layout, Marks, room}
 use Rattle.sheet.specs.Ready.{Fit}
 use Rattle.sheet.specs.Report.{Findings, Reported}

@@ -7,14 +7,13 @@ use mathlib.Core.Logic.{⊎-elim}
 use mathlib.Core.List.{List}
 use Rattle.plane.specs.declared.tile.Area.{Area}
 use Rattle.plane.specs.Picture.{Picture, area, inArea, painted}
-use Rattle.plane.proofs.Basics.{bool-cases}
+use Rattle.plane.proofs.Basics.{bool-cases, is-false}
 use Rattle.rules.specs.declared.rule.Rule.{Rule}
 use Rattle.rules.specs.Words.{haloOf, rulesOf}
 use Rattle.rules.proofs.Blank.{blank-free}
 use Rattle.rules.proofs.Vetted.{all-apart}
 use Rattle.rules.proofs.Window.{area-of, halo-local, within}
 use Rattle.piece.specs.Remark.{fullMark, nearArea, nearBlock, remarked}
-use Rattle.edges.proofs.Truths.{is-false}
 use Rattle.layout.specs.History.{Far, GoodRules}
 
 -- two pictures agree in a window w by h

@@ -10,19 +10,19 @@ use Rattle.plane.specs.Refusal.{ifDone}
 use Rattle.plane.specs.Words.{height, kinds, pictureOf, width}
 use Rattle.plane.proofs.Lowests.{left-as-is}
 use Rattle.rules.specs.Words.{haloOf, rulesOf, soundAt}
-use Rattle.piece.specs.Pieces.{touched, waitingPieces}
+use Rattle.waits.specs.Pieces.{touched, waitingPieces}
 use Rattle.piece.specs.Remark.{fullMark, nearArea, remarked}
 use Rattle.piece.proofs.Counts.{no-squares-wait, painted-pieces}
-use Rattle.checker.specs.Check.{checkedPiece, waitingOf}
-use Rattle.sheet.specs.Create.{Created}
+use Rattle.sweep.specs.Run.{checkedPiece, waitingOf}
+use Rattle.drawing.specs.Create.{Created}
 use Rattle.sheet.specs.Layout.{Layout, SoundLayout}
-use Rattle.sheet.specs.Paint.{Painted}
+use Rattle.drawing.specs.Paint.{Painted}
 use Rattle.sheet.specs.Ready.{Fit}
 use Rattle.checker.proofs.CheckStays.{check-carries, check-idle}
-use Rattle.checker.proofs.OnePiece.{errors-show, waiting-show}
+use Rattle.sweep.proofs.OnePiece.{errors-show, waiting-show}
 use Rattle.checker.proofs.Runs.{Doable, one-fewer, piece-fit, piece-in}
-use Rattle.sheet.proofs.Shows.{create-shows, create-size, paint-errors, paint-shows, paint-size}
-use Rattle.sheet.proofs.Stays.{create-makes, paint-keeps}
+use Rattle.drawing.proofs.Shows.{create-shows, create-size, paint-errors, paint-shows, paint-size}
+use Rattle.drawing.proofs.Stays.{create-makes, paint-keeps}
 use Rattle.layout.specs.History.{Far, GoodRules, History, created, fullMarks, then-checked, then-not-checked, then-not-created, then-painted, then-reported}
 use Rattle.layout.proofs.FarSquares.{Agree, FarRight, blank-right, paint-right, piece-right}
 

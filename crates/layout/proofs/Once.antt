@@ -11,7 +11,7 @@ use Rattle.plane.specs.Refusal.{ifDone, lowest-once, outcome-once}
 use Rattle.plane.specs.Words.{kinds}
 use Rattle.plane.proofs.Once.{number-once}
 use Rattle.rules.specs.declared.rule.Rule.{Rule}
-use Rattle.rules.specs.Expansion.{RuleList, Expanded, Widened, Spaced}
+use Rattle.macros.specs.Expansion.{RuleList, Expanded, Widened, Spaced}
 use Rattle.rules.specs.Vetting.{lowestBad}
 use Rattle.rules.specs.Words.{haloOf, rulesOf}
 use Rattle.checker.specs.declared.check.CheckAnswer.{CheckAnswer}
@@ -21,9 +21,10 @@ use Rattle.sheet.specs.declared.report.ReportAnswer.the-variants as report
 use Rattle.sheet.specs.Answers.{reportNumber, reportPlace, reportSettled, reportSquares, reportTiles, foundBy}
 use Rattle.checker.specs.Answers.{checkNumber, checkPlace, checkDone, checkLeft}
 use Rattle.sheet.specs.Layout.{Layout}
-use Rattle.checker.specs.Check.{CheckLeft, Checked, checkRefusals, checkRun, ranCheck, refusedCheck}
-use Rattle.sheet.specs.Create.{Created}
-use Rattle.sheet.specs.Paint.{Painted}
+use Rattle.sweep.specs.Run.{checkRun}
+use Rattle.checker.specs.Check.{CheckLeft, Checked, checkRefusals, ranCheck, refusedCheck}
+use Rattle.drawing.specs.Create.{Created}
+use Rattle.drawing.specs.Paint.{Painted}
 use Rattle.sheet.specs.Report.{Findings, Reported}
 use Rattle.layout.specs.Pack.{packReport, packPoint, packMacro, packCheck, ReportPacked, PointPacked, MacroPacked, CheckPacked}
 

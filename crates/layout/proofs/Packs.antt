@@ -9,10 +9,10 @@ use Rattle.plane.specs.declared.tile.Area.{Area}
 use Rattle.plane.specs.Point.{pointRefusals, Pointed}
 use Rattle.plane.specs.Words.{width, height}
 use Rattle.rules.specs.declared.rule.Rule.{Rule}
-use Rattle.rules.specs.Expansion.{macroRefusals, Expanded}
-use Rattle.sheet.specs.Create.{createRefusals, Created}
+use Rattle.macros.specs.Expansion.{macroRefusals, Expanded}
+use Rattle.drawing.specs.Create.{createRefusals, Created}
 use Rattle.sheet.specs.Layout.{Layout}
-use Rattle.sheet.specs.Paint.{paintRefusals, Painted}
+use Rattle.drawing.specs.Paint.{paintRefusals, Painted}
 use Rattle.sheet.specs.Report.{settled, Findings, reportRefusals, Reported}
 use Rattle.checker.specs.Check.{Checked}
 use Rattle.layout.specs.Pack.{bits, packReport, Narrow, ReportPacked, PointPacked, MacroPacked, CheckPacked, NarrowCheck, packCheck}

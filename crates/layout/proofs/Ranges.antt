@@ -19,16 +19,17 @@ use Rattle.plane.proofs.FromTable.{table-plane}
 use Rattle.plane.proofs.Lowests.{all-hold}
 use Rattle.plane.proofs.ToTable.{named}
 use Rattle.rules.specs.declared.rule.Rule.{Rule}
-use Rattle.rules.specs.Expansion.{RuleList, macroRefusals, Expanded}
+use Rattle.macros.specs.Expansion.{RuleList, macroRefusals, Expanded}
 use Rattle.rules.specs.Vetting.{AllSound, lowestBad}
 use Rattle.rules.specs.Words.{haloOf, rulesOf}
 use Rattle.rules.proofs.Vetted.{lowest}
-use Rattle.piece.specs.declared.waits.Block.{Block}
-use Rattle.piece.specs.declared.waits.Block.the-variants.{At, Nothing}
-use Rattle.piece.specs.Pieces.{blocks, pieceWaits, pieces, waitingPieces}
+use Rattle.waits.specs.declared.waits.Block.{Block}
+use Rattle.waits.specs.declared.waits.Block.the-variants.{At, Nothing}
+use Rattle.waits.specs.Pieces.{blocks, pieceWaits, pieces, waitingPieces}
 use Rattle.sheet.specs.Layout.{Layout}
 use Rattle.sheet.specs.Report.{around, settled, Findings, noFindings, findings, reportRefusals, Reported}
-use Rattle.checker.specs.Check.{CheckLeft, Checked, Run, afterBlock, checkRefusals, checkRun, fitsBlock, lowestOf, turn}
+use Rattle.sweep.specs.Run.{Run, afterBlock, checkRun, fitsBlock, lowestOf, turn}
+use Rattle.checker.specs.Check.{CheckLeft, Checked, checkRefusals}
 use Rattle.checker.proofs.Checkings.{passed-fit}
 use Rattle.checker.proofs.CheckStays.{leftBy, run-few, run-fit}
 use Rattle.layout.specs.Pack.{Narrow, NarrowCheck}

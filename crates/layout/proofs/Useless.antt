@@ -16,13 +16,14 @@ use Rattle.rules.specs.Forbid.{forbidden}
 use Rattle.rules.specs.Vetting.{AllSound, ListLength}
 use Rattle.rules.specs.Words.{wordsOf, rulesOf, haloOf, soundAt}
 use Rattle.piece.specs.Remark.{fullMark}
-use Rattle.checker.specs.Check.{CheckLeft, CheckLength, Checked, checkRefusals, checkRun, ranCheck, refusedCheck}
-use Rattle.sheet.specs.Create.{Created, createRefusals, fresh}
+use Rattle.sweep.specs.Run.{checkRun}
+use Rattle.checker.specs.Check.{CheckLeft, CheckLength, Checked, checkRefusals, ranCheck, refusedCheck}
+use Rattle.drawing.specs.Create.{Created, createRefusals, fresh}
 use Rattle.sheet.specs.Layout.{Layout, lent, OneLength, RuleLength, SoundLayout, WorkLength}
-use Rattle.sheet.specs.Paint.{BothFit, Painted, paintRefusals}
+use Rattle.drawing.specs.Paint.{BothFit, Painted, paintRefusals}
 use Rattle.sheet.specs.Report.{Findings, Reported, reportRefusals, settled}
-use Rattle.sheet.proofs.Creates.{created-done}
-use Rattle.sheet.proofs.Stays.{create-makes, painted-sound}
+use Rattle.drawing.proofs.Creates.{created-done}
+use Rattle.drawing.proofs.Stays.{create-makes, painted-sound}
 use Rattle.checker.proofs.CheckStays.{check-keeps}
 use Rattle.layout.specs.Worked.{checked, drawn, wide}
 

@@ -13,11 +13,11 @@ use Rattle.plane.specs.Words.{width, height, pictureOf, tileOf}
 use Rattle.paint.specs.Paint.{tableLike}
 use Rattle.rules.specs.Vetting.{ListLength, AllSound}
 use Rattle.rules.specs.Words.{rulesOf}
-use Rattle.piece.specs.Pieces.{touched}
+use Rattle.waits.specs.Pieces.{touched}
 use Rattle.piece.specs.Remark.{fullMark}
 use Rattle.sheet.specs.Layout.{Layout}
-use Rattle.sheet.specs.Create.{Created}
-use Rattle.sheet.specs.Paint.{Painted}
+use Rattle.drawing.specs.Create.{Created}
+use Rattle.drawing.specs.Paint.{Painted}
 use Rattle.checker.specs.Check.{Checked}
 use Rattle.sheet.specs.Report.{Findings, Reported}
 

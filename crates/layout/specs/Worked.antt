@@ -12,15 +12,16 @@ use Rattle.plane.specs.Words.{pictureOf, upTo, kindIn}
 use Rattle.paint.specs.Paint.{paintedOf}
 use Rattle.rules.specs.declared.rule.Rule.{Rule}
 use Rattle.rules.specs.Forbid.{errors}
-use Rattle.rules.specs.Macros.{width, spacing}
+use Rattle.macros.specs.Macros.{width, spacing}
 use Rattle.rules.specs.Some.{some, Every}
 use Rattle.rules.specs.Words.{wordsOf, rulesOf, haloOf}
-use Rattle.piece.specs.Pieces.{someIn, pieces, inWindow, waitsAt, pieceWaits, waitingPieces, lowestPiece, lowestBlock}
+use Rattle.waits.specs.Pieces.{someIn, pieces, inWindow, waitsAt, pieceWaits, waitingPieces, lowestPiece, lowestBlock}
 use Rattle.piece.specs.Remark.{remarked, nearBlock}
-use Rattle.checker.specs.Check.{CheckLeft, checkRun, ranCheck}
-use Rattle.sheet.specs.Create.{fresh}
+use Rattle.sweep.specs.Run.{checkRun}
+use Rattle.checker.specs.Check.{CheckLeft, ranCheck}
+use Rattle.drawing.specs.Create.{fresh}
 use Rattle.sheet.specs.Layout.{Layout}
-use Rattle.sheet.specs.Paint.{paintedLayout}
+use Rattle.drawing.specs.Paint.{paintedLayout}
 
 -- ---- what a line is about
 -- a window w by h with t types, the room of its tables, and areas painted in turn, each with its type

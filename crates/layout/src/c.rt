@@ -2,30 +2,30 @@
 use ask::handle::point;
 use checker::check::CheckAnswer;
 use checker::check::check;
+use drawing::create::create;
+use drawing::painting::paint;
+use macros::macros::MacroAnswer;
+use macros::macros::spacing;
+use macros::macros::width;
 use plane::answer::Point;
 use plane::answer::answer_number;
 use plane::answer::refusal_number;
 use plane::tile::Area;
 use plane::words::wide;
-use rules::macros::MacroAnswer;
-use rules::macros::spacing;
-use rules::macros::width;
-use sheet::create::create;
-use sheet::painting::paint;
 use sheet::report::ReportAnswer;
 use sheet::report::report;
 ghost use mathlib.Core.Path.{_≡_};
 ghost use Prim.Native.Nat.{_≤_};
 ghost use Rattle.plane.specs.Answers.{pointNumber, pointTile};
 ghost use Rattle.plane.specs.Picture.{area};
-ghost use Rattle.rules.specs.Answers.{macroNumber, macroUsed};
-ghost use Rattle.rules.specs.Expansion.{Widened, Spaced};
+ghost use Rattle.macros.specs.Made.{macroNumber, macroUsed};
+ghost use Rattle.macros.specs.Expansion.{Widened, Spaced};
 ghost use Rattle.sheet.specs.Answers.{reportNumber, reportPlace, reportSettled, reportSquares, reportTiles};
 ghost use Rattle.checker.specs.Answers.{checkNumber, checkPlace, checkDone, checkLeft};
-ghost use Rattle.sheet.specs.Create.{Created};
+ghost use Rattle.drawing.specs.Create.{Created};
 ghost use Rattle.sheet.specs.Layout.{lent};
 ghost use Rattle.layout.specs.Pack.{packCheck, NarrowCheck, CheckPacked, packReport, packPoint, packMacro, Narrow, ReportPacked, PointPacked, MacroPacked};
-ghost use Rattle.sheet.specs.Paint.{Painted};
+ghost use Rattle.drawing.specs.Paint.{Painted};
 
 // A report's answer in one number.
 fn pack_report(r: ReportAnswer) -> u64

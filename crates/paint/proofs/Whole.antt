@@ -10,19 +10,20 @@ use lib.Dec.{lit≤}
 use Rattle.plane.specs.declared.tile.Area.{Area}
 use Rattle.plane.specs.Picture.{Picture, area, bitOf, holds, inArea, painted, space, stamped, table, tiles, written}
 use Rattle.plane.specs.Plane.{Plane}
-use Rattle.plane.specs.Words.{InRange, IsTable, count, height, kinds, pictureOf, tileOf, width}
-use Rattle.strips.specs.declared.brush.Brush.{Brush}
+use Rattle.plane.specs.Words.{InRange, IsTable, count, height, kinds, pictureOf, roomIn, tileOf, width}
+use Rattle.brush.specs.declared.brush.Brush.{Brush}
 use Rattle.strips.specs.Cover.{Built}
-use Rattle.strips.specs.Brush.{Given, Shown, Small, after, brushArea, brushTile, goal, inked}
+use Rattle.brush.specs.Brush.{Given, Shown, Small, after, brushArea, brushTile, goal, inked}
+use Rattle.paint.specs.Paint.{tableLike}
 use Rattle.paint.specs.Tables.{FlatBrush, MayPaint, Paintable, PaintedOver, TilesAfter}
-use Rattle.plane.proofs.Basics.{bool-cases, tf}
-use Rattle.plane.proofs.FromTable.{picture-table, table-plane}
+use Rattle.plane.proofs.Basics.{bool-cases, lt-or-ge, tf}
+use Rattle.plane.proofs.FromTable.{picture-table, shows, table-plane}
 use Rattle.plane.proofs.Index.{holds-dec, later, mem-nth, mem-upTo}
 use Rattle.plane.proofs.Tables.{written-count, written-height, written-kinds, written-length, written-width}
 use Rattle.plane.proofs.Tiling.{tiles-strips}
 use Rattle.plane.proofs.ToTable.{plane-strips}
 use Rattle.paint.proofs.Finish.{built-number}
-use Rattle.strips.proofs.Pieces.{after-in, after-out}
+use Rattle.brush.proofs.Pieces.{after-in, after-out}
 
 -- ---- a table, as the rebuild takes it
 pub plane-shown : (ws : List ℕ) → Plane ws → Shown ws
@@ -160,6 +161,31 @@ tiles-of P = record { number = P .number; full = P .full }
 -- and so have the tiles of the rebuild
 pub tiles-as : {c r : ℕ} {ws vs : List ℕ} {p q : Picture} → p ≡ q → Built (width ws) (height ws) p c vs r → TilesAfter c ws q r
 tiles-as {c} {r} {ws} {vs} {p} {q} e B = subst (λ (s : Picture). TilesAfter c ws s r) e (record { number = λ u. built-number B u; full = B .full })
+
+-- ---- a table painted
+-- the room of a table that can be painted is the one that its words have
+pub paintable-room : {c : ℕ} {ws : List ℕ} {a : Area} → Paintable c ws a → c ≡ roomIn (length ws)
+paintable-room P = omega (arith, table-length (P .table))
+
+-- what had room once has it again
+pub again-fits : {c r s : ℕ} {ws zs : List ℕ} {q : Picture} → TilesAfter c ws q r → r ≤ c → PaintedOver c ws q zs s → s ≤ c
+again-fits {c} {r} {s} P u Q = ⊎-elim (λ (o : c < s). absurd (omega (arith, Q .full o, P .number u))) (λ (o : s ≤ c). o) (lt-or-ge c s)
+
+-- where it has room, it is the picture's table
+module _ {c r : ℕ} {ws vs : List ℕ} {q : Picture} (e : c ≡ roomIn (length ws)) (P : PaintedOver c ws q vs r) where
+  pub made : r ≤ c → vs ≡ tableLike ws q
+  made u = P .done u ∙ ap (λ (n : ℕ). table n (width ws) (height ws) (kinds ws) q) e
+
+-- a picture's table shows that picture in its window
+pub made-shows : (c w h k : ℕ) (q : Picture) (vs : List ℕ) → vs ≡ table c w h k q → length (tiles w h q) ≤ c → InRange w h k → ((x y : ℕ) → x < w → y < h → q x y < k)
+    → (x y : ℕ) → x < w → y < h → pictureOf vs x y ≡ q x y
+made-shows c w h k q vs e r R f x y u v =
+    let T = made-table c w h k q vs e r R f in
+    let s = table-size c w h k q in
+    let a : width vs ≡ w = ap width e ∙ s .0 in
+    let b : height vs ≡ h = ap height e ∙ s .1 in
+    let d : kinds vs ≡ k = ap kinds e ∙ s .2 in
+    shows c vs q (T .header) (T .room) (e ∙ (λ i. table c (sym a i) (sym b i) (sym d i) q)) (λ i j m n. subst (λ (z : ℕ). q i j < z) (sym d) (f i j (omega arith) (omega arith))) x y (omega arith) (omega arith)
 
 -- ---- the contracts' `requires` can be met: the worked example is a table
 pub worked-table : IsTable 3 (table 3 4 2 2 (painted space (area 1 0 2 2) 1))

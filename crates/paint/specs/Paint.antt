@@ -8,7 +8,7 @@ use Rattle.plane.specs.Picture.{Picture, tiles, table, space, painted, stamped}
 use Rattle.plane.specs.Words.{width, height, kinds, pictureOf, roomIn, InRange, TableLength, PictureTable}
 use Rattle.plane.specs.Area.{AreaIn}
 use Rattle.plane.specs.Refusal.{_unless_, Outcome}
-use Rattle.strips.specs.Brush.{Small}
+use Rattle.brush.specs.Brush.{Small}
 
 -- the table of another picture, with the room, size and types of ws
 abbrev pub tableLike : List ℕ → Picture → List ℕ

@@ -8,8 +8,8 @@ use Rattle.plane.specs.declared.tile.Area.{Area}
 use Rattle.plane.specs.Picture.{Picture, tiles, table}
 use Rattle.plane.specs.Words.{count, width, height, kinds, IsTable}
 use Rattle.plane.specs.Area.{AreaIn}
-use Rattle.strips.specs.declared.brush.Brush.{Brush}
-use Rattle.strips.specs.Brush.{BrushIn, brushArea}
+use Rattle.brush.specs.declared.brush.Brush.{Brush}
+use Rattle.brush.specs.Brush.{BrushIn, brushArea}
 
 -- the header is set, and all else stays
 pub record Headed (ws vs : List ℕ) (n w h k : ℕ) : Type 0 where

@@ -1,11 +1,11 @@
 // Whole tables: of space, and of the picture after, made at the front of the working room and taken over. For callers that have tested what
 // they are lent.
+use brush::brush::Brush;
 use plane::tile::Area;
 use plane::tile::Tile;
 use slots::slots::put_tile;
 use stitches::restitch::restitch;
 use stitches::stitch::stitch;
-use strips::brush::Brush;
 use strips::cover::rebuild;
 ghost use mathlib.Core.Path.{_≡_};
 ghost use Prim.Native.Nat.{_+_, _*_, _<_, _≤_};
@@ -13,7 +13,7 @@ ghost use lib.ListN.{length, replicate};
 ghost use Rattle.plane.specs.Picture.{table, space, painted, stamped};
 ghost use Rattle.plane.specs.Plane.{Plane};
 ghost use Rattle.plane.specs.Words.{kinds, pictureOf};
-ghost use Rattle.strips.specs.Brush.{Small, goal};
+ghost use Rattle.brush.specs.Brush.{Small, goal};
 ghost use Rattle.paint.specs.Tables.{Headed, Zeroed, Cleared, Copied, MayPaint, Paintable, FlatBrush, TilesAfter, PaintedOver};
 
 // Writes the header.

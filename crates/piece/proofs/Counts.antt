@@ -7,14 +7,13 @@ use mathlib.Core.Logic.{_⊎_, inl, inr, ⊎-elim}
 use borrow.Author.Tests.{lt-ltb}
 use Rattle.plane.specs.declared.tile.Area.{Area}
 use Rattle.plane.specs.Picture.{Picture, inArea, painted, sumTo}
-use Rattle.plane.proofs.Basics.{bool-cases, eq-or-ne}
+use Rattle.plane.proofs.Basics.{bool-cases, eq-or-ne, is-false}
 use Rattle.plane.proofs.Counting.{none-of, sum-eq, sum-less, sum-none, sum-split}
 use Rattle.rules.proofs.Searches.{same-truth}
 use Rattle.rules.proofs.Window.{area-of, within}
-use Rattle.piece.specs.Pieces.{blocks, inWindow, pieceWaits, pieces, someIn, touched, touches, waitingPieces, waitsAt}
+use Rattle.waits.specs.Pieces.{blocks, inWindow, pieceWaits, pieces, someIn, touched, touches, waitingPieces, waitsAt}
 use Rattle.piece.specs.Remark.{nearArea}
-use Rattle.piece.proofs.Blocks.{FoundIn, Waits, someIn-at, someIn-has, waits-at, waits-in, waits-inside}
-use Rattle.edges.proofs.Truths.{is-false}
+use Rattle.waits.proofs.Blocks.{FoundIn, Waits, someIn-at, someIn-has, waits-at, waits-in, waits-inside}
 
 -- ---- pieces that pass
 pub bit-split : (a b c : Bool) → (a ≡ true → (b ≡ true) ⊎ (c ≡ true)) → cond a 1 0 ≤ cond b 1 0 + cond c 1 0

@@ -10,7 +10,7 @@ use Rattle.plane.specs.declared.tile.Tile.{Tile}
 use Rattle.plane.specs.declared.tile.Area.{Area}
 use Rattle.plane.specs.Picture.{Picture, area, inArea}
 use Rattle.plane.specs.Words.{count, width, height, word, tileOf, pictureOf}
-use Rattle.plane.proofs.Basics.{lt-or-ge}
+use Rattle.plane.proofs.Basics.{lt-or-ge, is-false}
 use Rattle.plane.proofs.ToTable.{shown}
 use Rattle.edges.specs.Edge.{Small}
 use Rattle.edges.specs.Near.{Still}
@@ -19,11 +19,10 @@ use Rattle.plane.specs.Plane.{Plane, Names}
 use Rattle.rules.specs.Forbid.{kindAt, outside}
 use Rattle.rules.proofs.Searches.{same-truth}
 use Rattle.rules.proofs.Window.{Within, within, area-of}
-use Rattle.piece.specs.Fill.{Filled, Drawn, rowOf}
-use Rattle.piece.specs.Cut.{CutOut, Cuttable, RowCut, placed, placedArea, around}
-use Rattle.edges.proofs.Truths.{is-false}
-use Rattle.piece.proofs.Tiles.{tile-end, tile-shows}
-use Rattle.piece.proofs.Fills.{drawn-none, drawn-here, drawn-as, drawn-right, drawn-up, drawn-row}
+use Rattle.plane.specs.Fill.{Filled}
+use Rattle.piece.specs.Cut.{Drawn, rowOf, CutOut, Cuttable, RowCut, placed, placedArea, around}
+use Rattle.plane.proofs.Tiles.{tile-end, tile-shows}
+use Rattle.piece.proofs.Drawings.{drawn-none, drawn-here, drawn-as, drawn-right, drawn-up, drawn-row}
 
 -- the part of a local picture that is cut out, and the window in the plane
 abbrev part : ℕ → ℕ → Area

@@ -1,10 +1,6 @@
 -- The laws of a piece, each file named after its subject.
-pub mod Tiles
-pub mod Fills
-pub mod Blocks
 pub mod Counts
-pub mod Waited
-pub mod SweptRows
+pub mod Drawings
 pub mod Cuts
 pub mod Exchange
 pub mod Views
@@ -12,4 +8,3 @@ pub mod Bits
 pub mod ShownRows
 pub mod Remarks
 pub mod Calms
-pub mod Sweeps

@@ -17,7 +17,7 @@ use Rattle.plane.proofs.Basics.{lt-or-ge}
 use Rattle.rules.proofs.Window.{within}
 use Rattle.piece.specs.Shown.{Readable, RowShown, SameWords, ShowsRows, withRun}
 use Rattle.piece.proofs.Bits.{bit-half}
-use Rattle.piece.proofs.Tiles.{tile-end, tile-shows}
+use Rattle.plane.proofs.Tiles.{tile-end, tile-shows}
 
 -- ---- a run of ones above a word of d bits, up to bit e
 ones-bit : (e i : ℕ) → i < e → bitOf (2 ^ e - 1) i ≡ 1

@@ -7,7 +7,6 @@ use lib.ListN.{length, getD}
 use Rattle.plane.specs.declared.tile.Area.{Area}
 use Rattle.plane.specs.Picture.{Picture, area, inArea}
 use Rattle.rules.specs.Forbid.{kindAt, outside}
-use Rattle.piece.specs.Fill.{Drawn}
 
 -- the picture p of a window, from column and row lo up to hi of the local picture that begins at (ox,oy) of the plane; elsewhere what is outside the window
 pub record CutOut (lo hi w h : ℕ) (p : Picture) (ox oy : ℕ) (ks : List ℕ) : Type 0 where
@@ -15,6 +14,15 @@ pub record CutOut (lo hi w h : ℕ) (p : Picture) (ox oy : ℕ) (ks : List ℕ) 
   pub kind : (u v : ℕ) → u < 82 → v < 82 → getD ks (v * 82 + u) 0 ≡ cond (inArea (area lo lo hi hi) u v) (kindAt w h p (ox + u) (oy + v)) outside
 
 -- ---- steps
+-- m′ is m with the types of f in an area of its squares
+pub record Drawn (f : Picture) (a : Area) (m m′ : List ℕ) : Type 0 where
+  pub long : length m′ ≡ length m
+  pub square : (x y : ℕ) → x < 82 → y < 82 → getD m′ (y * 82 + x) 0 ≡ cond (inArea a x y) (f x y) (getD m (y * 82 + x) 0)
+
+-- row v of m, in every row
+abbrev pub rowOf : List ℕ → ℕ → Picture
+rowOf m v x y = getD m (v * 82 + x) 0
+
 -- where column (or row) x of the window stands in the local picture of block b
 abbrev pub placed : ℕ → ℕ → ℕ
 placed b x = x + 33 - 16 * b

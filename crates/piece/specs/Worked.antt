@@ -3,8 +3,8 @@ use Prim.Native.Nat.{ℕ}
 use mathlib.Core.Path.{_≡_, refl}
 use Rattle.plane.specs.Picture.{Picture, space, area, inArea, painted, extent, sumTo}
 use Rattle.rules.specs.Some.{some}
-use Rattle.piece.specs.declared.waits.Block.the-variants.{At, Nothing}
-use Rattle.piece.specs.Pieces.{someIn, pieces, inWindow, waitsAt, pieceWaits, touches, touched, lowestPiece, lowestBlock}
+use Rattle.waits.specs.declared.waits.Block.the-variants.{At, Nothing}
+use Rattle.waits.specs.Pieces.{someIn, pieces, inWindow, waitsAt, pieceWaits, touches, touched, lowestPiece, lowestBlock}
 use Rattle.piece.specs.Remark.{nearArea}
 
 -- the waiting picture after that paint

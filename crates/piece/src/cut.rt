@@ -1,7 +1,7 @@
 // The local picture of a block: 82 by 82 squares, row by row, cut out of a table. The block has two halos of 16 and a rim of 1 around it, and begins at column and row 33.
 // The tiles there are found by walking, each from the last; the table is not passed as a whole.
-use crate::fill::fill;
 use crate::rows::near_area;
+use plane::fill::fill;
 use plane::find::seek;
 use plane::tile::Area;
 use plane::words::least;
@@ -14,8 +14,7 @@ ghost use Rattle.plane.specs.Picture.{area};
 ghost use Rattle.plane.specs.Plane.{Plane};
 ghost use Rattle.plane.specs.Words.{count, width, height, pictureOf};
 ghost use Rattle.rules.specs.Forbid.{outside};
-ghost use Rattle.piece.specs.Fill.{Drawn, rowOf};
-ghost use Rattle.piece.specs.Cut.{CutOut, Cuttable, RowCut, placed};
+ghost use Rattle.piece.specs.Cut.{Drawn, rowOf, CutOut, Cuttable, RowCut, placed};
 
 // Makes row `to` as row v is, from column u1 up to u2.
 fn copy_row(kinds: &mut [u8; 6724], v: usize, to: usize, u1: usize, u2: usize)

@@ -47,3 +47,12 @@ module _ {a a' b b' b'' : Tile} (e : b ≡ b') (f : b' ≡ b'') (g : a ≡ a') w
 
   pub same-kind : b'' .kind ≡ a' .kind → b .kind ≡ a .kind
   same-kind h = ap (λ (t : Tile). t .kind) (e ∙ f) ∙ (h ∙ ap (λ (t : Tile). t .kind) (sym g))
+
+-- what is not true is false, and the other way round
+pub is-false : (b : Bool) → (b ≡ true → ⊥) → b ≡ false
+is-false true f = absurd (f refl)
+is-false false f = refl
+
+pub is-true : (b : Bool) → (b ≡ false → ⊥) → b ≡ true
+is-true true f = refl
+is-true false f = absurd (f refl)

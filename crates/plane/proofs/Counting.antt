@@ -6,11 +6,13 @@ use native.Mathlib.Nat.{mul-comm, mul-add, zero-add, zero-mul, mul-zero}
 use mathlib.Core.Bool.{Bool, true, false, cond, _&&_}
 use mathlib.Core.Path.{_≡_, refl, sym, _∙_, ap}
 use mathlib.Core.Logic.{⊎-elim}
+use mathlib.Core.List.{List}
 use lib.Dec.{eqb, leb, ltb}
+use lib.ListN.{length, length-append}
 use borrow.Author.Tests.{eq-eqb, ne-eqb, le-leb, lt-ltb, lt-leb, le-ltb}
 use Rattle.plane.specs.declared.tile.Tile.{Tile}
 use Rattle.plane.specs.Strips.{Box, Holds}
-use Rattle.plane.specs.Picture.{sumTo}
+use Rattle.plane.specs.Picture.{joined, sumTo}
 use Rattle.plane.proofs.Basics.{lt-or-ge, eq-or-ne, and-both}
 
 pub sum-eq : (n : ℕ) (f g : ℕ → ℕ) → ((i : ℕ) → i < n → f i ≡ g i) → sumTo n f ≡ sumTo n g
@@ -274,3 +276,9 @@ module _ (w h n : ℕ) (f : ℕ → Tile) (bx : (i : ℕ) → i < n → Box w h 
       where
         single : (x y : ℕ) → x < w → y < h → held x y ≡ 1
         single x y a b = let c = cover x y a b in one-hit n f (λ i. true) (c .0) x y (c .1) (c .2) (λ i u q. one i (c .0) x y u (c .1) q (c .2))
+
+-- ---- lists joined: their lengths add up
+pub length-joined : {A : Type 0} (n : ℕ) (f : ℕ → List A) → length (joined n f) ≡ sumTo n (λ i. length (f i))
+unfolding joined sumTo
+length-joined zero f = refl
+length-joined (suc n) f = length-append (joined n f) (f n) ∙ ap (λ x. x + length (f n)) (length-joined n f)

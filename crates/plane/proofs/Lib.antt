@@ -11,8 +11,7 @@ pub mod Listings
 pub mod FromTable
 pub mod Counting
 pub mod Shares
-pub mod Checked
-pub mod Joints
 pub mod Lowests
-pub mod Vets
 pub mod Once
+pub mod Tiles
+pub mod Fills

@@ -1,4 +1,4 @@
--- An answer is known by its number and its value, and the test of a table has one: two that meet its statement are the same.
+-- An answer is known by its number and its value.
 use Prim.Native.Nat.{ℕ, zero, suc}
 use native.Mathlib.Omega.{arith}
 use mathlib.Core.Path.{_≡_, refl, sym, _∙_, ap}
@@ -12,8 +12,6 @@ use Rattle.plane.specs.declared.answer.Point.the-variants as point
 use Rattle.plane.specs.declared.answer.Refusal.{Refusal}
 use Rattle.plane.specs.declared.answer.Refusal.the-variants.{Lengths, Sizes, NoTable, NoRule, Kind, Place, Full}
 use Rattle.plane.specs.Answers.{refusalNumber, number, pointNumber, pointTile, countNumber, countValue}
-use Rattle.plane.specs.Point.{vetRefusals, Vetted}
-use Rattle.plane.specs.Refusal.{lowest-once}
 use Rattle.plane.proofs.Lowests.{refusal-positive}
 
 -- ---- an answer is known by its number and its value
@@ -60,7 +58,3 @@ counting-once (counted.Count i) (counted.Count j) e f = ap counted.Count f
 counting-once (counted.Count i) (counted.No s) e f = never s e
 counting-once (counted.No r) (counted.Count j) e f = never r (sym e)
 counting-once (counted.No r) (counted.No s) e f = ap counted.No (refusal-once r s e)
-
--- ---- the test
-pub vet-once : {ws : List ℕ} (r r' : Answer) → Vetted ws (number r) → Vetted ws (number r') → r ≡ r'
-vet-once {ws} r r' p q = number-once r r' (lowest-once (vetRefusals ws) (p .number) (q .number))

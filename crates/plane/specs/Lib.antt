@@ -3,9 +3,9 @@ pub mod Picture
 pub mod Strips
 pub mod Words
 pub mod Plane
-pub mod Checks
 pub mod Refusal
 pub mod Answers
 pub mod Point
 pub mod Listing
 pub mod Area
+pub mod Fill

@@ -7,6 +7,11 @@ use Rattle.plane.specs.declared.tile.Tile.{Tile}
 use Rattle.plane.specs.Strips.{Box, Holds, Precedes}
 use Rattle.plane.specs.Words.{Header, count, width, height, kinds, word, tileOf}
 
+-- a tile's own numbers
+pub record Boxed (w h k : ℕ) (a : Tile) : Type 0 where
+  pub box : Box w h a
+  pub type : a .kind < k
+
 -- the slice has the words of all its tiles
 pub record Sized (ws : List ℕ) : Type 0 where
   pub whole : 4 + 9 * count ws ≤ length ws

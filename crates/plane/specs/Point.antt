@@ -7,7 +7,7 @@ use Rattle.plane.specs.declared.find.Found.{Found}
 use Rattle.plane.specs.declared.find.Found.the-variants.{At, Nothing}
 use Rattle.plane.specs.Words.{count, width, height, word, numberAt, TableLength, PictureTable}
 use Rattle.plane.specs.Plane.{Names}
-use Rattle.plane.specs.Refusal.{_unless_, Lowest, Outcome}
+use Rattle.plane.specs.Refusal.{_unless_, Outcome}
 
 -- the square lies in a window w by h
 pub record SquareIn (w h x y : ℕ) : Type 0 where
@@ -19,17 +19,6 @@ pub record TableOf (w h : ℕ) (ws : List ℕ) : Type 0 where
   pub table : PictureTable ws
   pub wide : width ws ≡ w
   pub tall : height ws ≡ h
-
--- when a test of one table says no
-abbrev pub vetRefusals : List ℕ → List (ℕ × Type 0)
-vetRefusals ws =
-    1 unless TableLength (length ws)
-    ∷ 3 unless PictureTable ws
-    ∷ []
-
--- the test of one table
-pub record Vetted (ws : List ℕ) (answer : ℕ) : Type 0 where
-  pub number : Lowest (vetRefusals ws) answer
 
 -- when point says no
 abbrev pub pointRefusals : List ℕ → ℕ → ℕ → ℕ → ℕ → List (ℕ × Type 0)
@@ -53,14 +42,3 @@ pub record OnRow (ws : List ℕ) (i y : ℕ) : Type 0 where
   pub counted : i < count ws
   pub low : word ws i 1 ≤ y
   pub high : y < word ws i 3
-
--- when a test of a table and its size says no
-abbrev pub sizedRefusals : List ℕ → ℕ → ℕ → List (ℕ × Type 0)
-sizedRefusals ws w h =
-    1 unless TableLength (length ws)
-    ∷ 3 unless TableOf w h ws
-    ∷ []
-
--- the test of a table and its size
-pub record SizedRight (ws : List ℕ) (w h answer : ℕ) : Type 0 where
-  pub number : Lowest (sizedRefusals ws w h) answer

@@ -1,11 +1,7 @@
 pub mod Searches
 pub mod Sets
-pub mod Puts
-pub mod Counts
-pub mod Spaces
 pub mod Local
 pub mod Window
 pub mod Blank
 pub mod Vetted
-pub mod Expands
 pub mod Once

@@ -1,23 +1,19 @@
 -- Each public call has one outcome: two that meet its statement have the same answer and leave the same words. An answer is known by its numbers.
 use Prim.Native.Nat.{ℕ, zero, suc}
 use native.Mathlib.Omega.{arith}
-use mathlib.Core.Bool.{Bool, cond}
+use mathlib.Core.Bool.{cond}
 use mathlib.Core.List.{List}
 use mathlib.Core.Path.{_≡_, refl, sym, _∙_, ap, ap₂}
 use lib.Dec.{eqb}
 use Rattle.plane.specs.Refusal.{lowest-once, outcome-once}
 use Rattle.plane.proofs.Lowests.{refusal-positive}
 use Rattle.plane.proofs.Once.{refusal-once}
-use Rattle.rules.specs.declared.rule.Rule.{Rule}
 use Rattle.rules.specs.declared.list.ListAnswer.{ListAnswer}
 use Rattle.rules.specs.declared.list.ListAnswer.the-variants as list
 use Rattle.rules.specs.declared.list.HaloAnswer.{HaloAnswer}
 use Rattle.rules.specs.declared.list.HaloAnswer.the-variants as halo
-use Rattle.rules.specs.declared.macros.MacroAnswer.{MacroAnswer}
-use Rattle.rules.specs.declared.macros.MacroAnswer.the-variants as macro
-use Rattle.rules.specs.Answers.{listNumber, listPlace, haloNumber, haloValue, macroNumber, macroUsed}
+use Rattle.rules.specs.Answers.{listNumber, listPlace, haloNumber, haloValue}
 use Rattle.rules.specs.Vetting.{listRefusals, lowestBad, ListVetted, HaloFound}
-use Rattle.rules.specs.Expansion.{RuleList, Expanded, Widened, Spaced}
 
 -- ---- an answer is known by its numbers
 listOf : ℕ → ℕ → ListAnswer
@@ -39,12 +35,6 @@ halo-known (halo.Reach k) (halo.No r) e f = absurd (omega (arith, refusal-positi
 halo-known (halo.No r) (halo.Reach k) e f = absurd (omega (arith, refusal-positive r, e))
 halo-known (halo.No r) (halo.No s) e f = ap halo.No (refusal-once r s e)
 
-macro-known : (a b : MacroAnswer) → macroNumber a ≡ macroNumber b → macroUsed a ≡ macroUsed b → a ≡ b
-macro-known (macro.Used k) (macro.Used m) e f = ap macro.Used f
-macro-known (macro.Used k) (macro.No r) e f = absurd (omega (arith, refusal-positive r, e))
-macro-known (macro.No r) (macro.Used k) e f = absurd (omega (arith, refusal-positive r, e))
-macro-known (macro.No r) (macro.No s) e f = ap macro.No (refusal-once r s e)
-
 -- ---- the calls
 pub vet-list-once : {ws : List ℕ} {used t : ℕ} (r r′ : ListAnswer) → ListVetted ws used t (listNumber r) (listPlace r) → ListVetted ws used t (listNumber r′) (listPlace r′) → r ≡ r′
 vet-list-once {ws} {used} {t} r r′ p q =
@@ -54,17 +44,3 @@ vet-list-once {ws} {used} {t} r r′ p q =
 
 pub halo-once : {ws : List ℕ} {used : ℕ} (r r′ : HaloAnswer) → HaloFound ws used (haloNumber r) (haloValue r) → HaloFound ws used (haloNumber r′) (haloValue r′) → r ≡ r′
 halo-once r r′ p q = let e = outcome-once (p .outcome) (q .outcome) in halo-known r r′ (e .0) (e .1)
-
-macro-once : {ws after after′ : List ℕ} {used t : ℕ} {ok : Bool} {rs : List Rule} (r r′ : MacroAnswer)
-    → Expanded ws used t ok rs (macroNumber r) (macroUsed r) after → Expanded ws used t ok rs (macroNumber r′) (macroUsed r′) after′ → (r ≡ r′) × (after ≡ after′)
-macro-once r r′ p q =
-    let e = outcome-once (p .outcome) (q .outcome) in
-    (macro-known r r′ (e .0) (ap (λ (l : RuleList). l .used) (e .1)), ap (λ (l : RuleList). l .words) (e .1))
-
-pub width-once : {ws after after′ : List ℕ} {used t : ℕ} (s d reason : ℕ) (r r′ : MacroAnswer)
-    → Widened ws used t s d reason (macroNumber r) (macroUsed r) after → Widened ws used t s d reason (macroNumber r′) (macroUsed r′) after′ → (r ≡ r′) × (after ≡ after′)
-width-once s d reason r r′ p q = macro-once r r′ p q
-
-pub spacing-once : {ws after after′ : List ℕ} {used t : ℕ} (a b d touch reason : ℕ) (r r′ : MacroAnswer)
-    → Spaced ws used t a b d touch reason (macroNumber r) (macroUsed r) after → Spaced ws used t a b d touch reason (macroNumber r′) (macroUsed r′) after′ → (r ≡ r′) × (after ≡ after′)
-spacing-once a b d touch reason r r′ p q = macro-once r r′ p q

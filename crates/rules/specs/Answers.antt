@@ -5,8 +5,6 @@ use Rattle.rules.specs.declared.list.ListAnswer.{ListAnswer}
 use Rattle.rules.specs.declared.list.ListAnswer.the-variants as list
 use Rattle.rules.specs.declared.list.HaloAnswer.{HaloAnswer}
 use Rattle.rules.specs.declared.list.HaloAnswer.the-variants as halo
-use Rattle.rules.specs.declared.macros.MacroAnswer.{MacroAnswer}
-use Rattle.rules.specs.declared.macros.MacroAnswer.the-variants as macro
 
 -- the test of a list: its number, and the lowest bad rule's place
 abbrev pub listNumber : ListAnswer → ℕ
@@ -29,12 +27,3 @@ haloNumber (halo.No r) = refusalNumber r
 abbrev pub haloValue : HaloAnswer → ℕ
 haloValue (halo.Reach k) = k
 haloValue (halo.No r) = 0
-
--- a macro: its number (with 4 the place is 0), and the new count of used rules
-abbrev pub macroNumber : MacroAnswer → ℕ
-macroNumber (macro.Used n) = 0
-macroNumber (macro.No r) = refusalNumber r
-
-abbrev pub macroUsed : MacroAnswer → ℕ
-macroUsed (macro.Used n) = n
-macroUsed (macro.No r) = 0

@@ -1,4 +1,3 @@
-// Edge rules: their words and ranges, lists of them, and the two macros that write them.
+// Edge rules: their words and ranges, and lists of them.
 pub mod list;
-pub mod macros;
 pub mod rule;

@@ -1,8 +1,6 @@
--- What the contracts of create, paint and report cite.
+-- What the contracts of a layout's test and of report cite.
 pub mod Layout
 pub mod Ready
-pub mod Create
-pub mod Paint
 pub mod Report
 pub mod Answers
 pub mod Steps

@@ -1,5 +1,3 @@
-// A layout, three tables that belong together: made, painted and reported on.
-pub mod create;
-pub mod painting;
+// A layout, three tables that belong together: their test, and a report on an area.
 pub mod report;
 pub mod shape;

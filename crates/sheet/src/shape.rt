@@ -1,10 +1,10 @@
 // Tests of what a call is lent: lengths, three tables that belong together, and the rules used.
-use plane::vet::is_table;
 use plane::words::room_in;
 use plane::words::table_length;
 use rules::list::RulesAnswer;
 use rules::list::list_length;
 use rules::list::vet_rules;
+use vet::vet::is_table;
 ghost use lib.ListN.{length};
 ghost use Rattle.plane.specs.Words.{TableLength, PictureTable, Says};
 ghost use Rattle.sheet.specs.Answers.{readyNumber, readyPlace};

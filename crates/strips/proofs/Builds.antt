@@ -10,8 +10,8 @@ use Rattle.plane.specs.declared.tile.Tile.{Tile}
 use Rattle.plane.specs.Picture.{tiles}
 use Rattle.plane.specs.Strips.{Holds, Strip, Strips}
 use Rattle.plane.specs.Words.{count, height, pictureOf, tileOf, upTo, width}
-use Rattle.strips.specs.declared.brush.Brush.{Brush}
-use Rattle.strips.specs.Brush.{Given, goal}
+use Rattle.brush.specs.declared.brush.Brush.{Brush}
+use Rattle.brush.specs.Brush.{Given, goal}
 use Rattle.strips.specs.Cover.{AllUnder, Built, CoveredBy, CoversZone, Grown, Kept, LowTo, Untouched, Working, above-it, left-of, right-of}
 use Rattle.slots.specs.Slots.{Appended, Has}
 use Rattle.plane.proofs.Basics.{lt-or-ge}

@@ -10,7 +10,7 @@ use Rattle.plane.specs.Picture.{Picture}
 use Rattle.plane.specs.Strips.{Holds, Strip}
 use Rattle.plane.specs.Words.{tileOf}
 use Rattle.strips.specs.declared.cover.Spot.{Spot}
-use Rattle.strips.specs.Brush.{Upward}
+use Rattle.brush.specs.Brush.{Upward}
 use Rattle.strips.specs.Cover.{AllUnder, CoveredBy, Covers, CoversRow, CoversZone, Grown, RowUnder, SpotOf, Working}
 use Rattle.slots.specs.Slots.{Sought, WithTile}
 use Rattle.plane.proofs.Basics.{lt-or-ge}

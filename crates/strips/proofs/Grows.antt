@@ -9,14 +9,14 @@ use Rattle.plane.specs.declared.tile.Tile.{Tile}
 use Rattle.plane.specs.Picture.{Picture, tiles}
 use Rattle.plane.specs.Strips.{Holds, Ordered, Precedes, Run, Strip}
 use Rattle.plane.specs.Words.{tileOf, upTo}
-use Rattle.strips.specs.Brush.{Upward}
+use Rattle.brush.specs.Brush.{Upward}
 use Rattle.strips.specs.Cover.{CoveredBy, Grown, Part}
 use Rattle.slots.specs.Slots.{Fresh, Has, Sorted, WithTile}
 use Rattle.plane.proofs.Basics.{lt-or-ge}
 use Rattle.plane.proofs.Index.{length-upTo, ordered-upTo, upTo-mem}
 use Rattle.plane.proofs.Lists.{precedes-not}
 use Rattle.plane.proofs.Tiling.{strip-one, tiles-strips}
-use Rattle.strips.proofs.Spans.{one-run}
+use Rattle.brush.proofs.Spans.{one-run}
 use Rattle.strips.proofs.Stays.{holds-at, own-corner, strip-at, upper-strip}
 
 -- ---- the strips made

@@ -1,6 +1,4 @@
 -- The laws of the rebuild, each file named after its subject.
-pub mod Pieces
-pub mod Spans
 pub mod Stays
 pub mod Grows
 pub mod Covers

@@ -8,14 +8,14 @@ use Rattle.plane.specs.declared.tile.Tile.{Tile}
 use Rattle.plane.specs.Picture.{Picture}
 use Rattle.plane.specs.Strips.{Holds, Precedes, Run, Strip}
 use Rattle.plane.specs.Words.{count, height, tileOf, width}
-use Rattle.strips.specs.declared.brush.Brush.{Brush}
-use Rattle.strips.specs.Brush.{Given, Shown, Upward, after, brushTile, goal}
+use Rattle.brush.specs.declared.brush.Brush.{Brush}
+use Rattle.brush.specs.Brush.{Given, Shown, Upward, after, brushTile, goal}
 use Rattle.strips.specs.Cover.{CoveredBy, Kept, LowTo, Part, SameStart, Untouched, above-it, below-it, left-of, right-of}
 use Rattle.slots.specs.Slots.{Has, Past, PlaceOf, PutTile}
 use Rattle.plane.proofs.Basics.{lt-or-ge}
-use Rattle.strips.proofs.Pieces.{after-out}
+use Rattle.brush.proofs.Pieces.{after-out}
 use Rattle.slots.proofs.Places.{first-too}
-use Rattle.strips.proofs.Spans.{one-run}
+use Rattle.brush.proofs.Spans.{one-run}
 
 -- ---- two pictures that agree outside an area
 abbrev pub Agree : Picture → Picture → Brush → Type 0

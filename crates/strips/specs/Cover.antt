@@ -8,10 +8,10 @@ use Rattle.plane.specs.declared.tile.Tile.{Tile}
 use Rattle.plane.specs.Picture.{Picture, tiles}
 use Rattle.plane.specs.Strips.{Strip, Holds}
 use Rattle.plane.specs.Words.{count, width, height, tileOf, upTo}
-use Rattle.strips.specs.declared.brush.Brush.{Brush}
+use Rattle.brush.specs.declared.brush.Brush.{Brush}
 use Rattle.strips.specs.declared.cover.Spot.{Spot}
 use Rattle.slots.specs.Slots.{InOrderTo, Has}
-use Rattle.strips.specs.Brush.{goal}
+use Rattle.brush.specs.Brush.{goal}
 
 -- ---- the tiles that are kept
 

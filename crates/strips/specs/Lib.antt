@@ -1,3 +1,2 @@
 -- What the contracts of the rebuild cite: the brush and the picture after it, the squares covered.
-pub mod Brush
 pub mod Cover

@@ -1,8 +1,8 @@
 // The rebuild, by covering: of the tiles that begin in the row above the area or lower, those that the area does not touch and those that
 // begin below it are kept; then every square in and beside the area that no tile holds has its strip put in; and the tiles that begin
 // higher, which come after all these, are put behind. Where there are more strips than room, a count above the room says so.
-use crate::brush::Brush;
-use crate::runs::strip_at;
+use brush::brush::Brush;
+use brush::runs::strip_at;
 use plane::find::seek;
 use plane::tile::Tile;
 use plane::words::least;
@@ -20,7 +20,7 @@ ghost use mathlib.Core.Path.{_≡_};
 ghost use Prim.Native.Nat.{_+_, _*_, _-_, _<_, _≤_, min};
 ghost use lib.ListN.{length};
 ghost use Rattle.plane.specs.Words.{count, width, height, Says};
-ghost use Rattle.strips.specs.Brush.{Given, Near, goal};
+ghost use Rattle.brush.specs.Brush.{Given, Near, goal};
 ghost use Rattle.strips.specs.Cover.{SpotOf, Untouched, LowTo, Kept, Working, RowUnder, AllUnder, Covers, CoversRow, CoversZone, Built};
 
 // A number of tiles, and the right end and the top of one of them.

@@ -1,4 +1,2 @@
 // The tiles of the picture after a brush, made from the table before it.
-pub mod brush;
 pub mod cover;
-pub mod runs;

@@ -1,6 +1,4 @@
--- The laws of the session, each file named after its subject.
-pub mod Chunks
-pub mod Steps
-pub mod Feeds
+-- The laws of the talk, each file named after its subject.
+pub mod Exchanges
 pub mod Wires
 pub mod Turns

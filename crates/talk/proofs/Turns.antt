@@ -10,13 +10,16 @@ use lib.Seq.{length-take-le}
 use borrow.Author.Tests.{eqb-true, not-false}
 use Rattle.plane.proofs.Basics.{and-left}
 use Rattle.talk.specs.declared.turn.Turn.{Turn}
-use Rattle.talk.specs.declared.state.State.{State}
+use Rattle.lines.specs.declared.state.State.{State}
 use Rattle.talk.specs.declared.wire.Came.{Came}
 use Rattle.talk.specs.declared.wire.Wire.{Wire}
 use Rattle.talk.specs.Wire.{heard, said, Carried, Hears, Says}
-use Rattle.talk.specs.Held.{Store, Holds, Safe, Took, Turned, Conversed}
-use Rattle.talk.specs.Session.{Model, start, fed, output, lastWords, written, whole, exchanges}
-use Rattle.talk.proofs.Chunks.{fed-append, exchanges-on, whole-on, talk-heard, talk-said}
+use Rattle.lines.specs.Held.{Store, Holds, Safe, Took}
+use Rattle.talk.specs.Conversed.{Turned, Conversed}
+use Rattle.lines.specs.Session.{Model, start, fed, output, lastWords, written}
+use Rattle.talk.specs.Exchange.{whole, exchanges}
+use Rattle.lines.proofs.Chunks.{fed-append}
+use Rattle.talk.proofs.Exchanges.{exchanges-on, whole-on, talk-heard, talk-said}
 use Rattle.talk.proofs.Wires.{some-left}
 
 -- ---- one turn

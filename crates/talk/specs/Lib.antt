@@ -1,5 +1,5 @@
--- What the contracts of the session cite: the wire, the session as a machine over bytes, and how the program's state and slices hold it.
+-- What the contracts of the talk cite: the wire, what passes over it, and what the whole session promises; and document 01's example.
 pub mod Wire
-pub mod Session
-pub mod Held
+pub mod Exchange
+pub mod Conversed
 pub mod Example

@@ -1,5 +1,3 @@
-// Lines in, replies out: the state between bytes, the wire, and the turns over it. The program is this and its arrays.
-pub mod feed;
-pub mod state;
+// The wire, and the turns over it: hear, take the lines, say the replies. The program is this and its arrays.
 pub mod turn;
 pub mod wire;

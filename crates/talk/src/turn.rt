@@ -1,16 +1,17 @@
 // Turns: hear, take what came, say the replies; until the wire is closed.
-use crate::feed::feed;
-use crate::feed::finish;
-use crate::state::State;
-use crate::state::started;
 use crate::wire::Wire;
 use crate::wire::hear;
 use crate::wire::is_open;
 use crate::wire::say;
 use crate::wire::unused;
+use lines::feed::feed;
+use lines::feed::finish;
+use lines::state::State;
+use lines::state::started;
 ghost use Prim.Native.Nat.{_+_, _≤_, _<_, _^_};
 ghost use lib.ListN.{length};
-ghost use Rattle.talk.specs.Held.{store, Blank, Safe, Turned, Conversed};
+ghost use Rattle.lines.specs.Held.{store, Blank, Safe};
+ghost use Rattle.talk.specs.Conversed.{Turned, Conversed};
 
 // The state and the wire after a turn.
 pub struct Turn {

@@ -1,5 +1,5 @@
 -- `query::neighbours_at` meets its contract: a law of Asked at each return. The first listing writes nothing, so a refusal leaves the slice.
-use Rattle.plane.proofs.Vets.{passed-plane, passed-words, sized-done}
+use Rattle.vet.proofs.Vets.{passed-plane, passed-words, sized-done}
 use Rattle.ask.proofs.Asked.{neighboured-no, neighboured-nowhere, neighboured-full, neighboured-done}
 use native.Mathlib.Omega.{arith}
 use borrow.Author.Needs.{needs}

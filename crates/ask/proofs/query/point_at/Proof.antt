@@ -1,5 +1,5 @@
 -- `query::point_at` meets its contract: a law of Asked at each return.
-use Rattle.plane.proofs.Vets.{passed-plane, sized-done}
+use Rattle.vet.proofs.Vets.{passed-plane, sized-done}
 use Rattle.ask.proofs.Asked.{pointed-no, pointed-outside, pointed-at}
 use borrow.Author.Needs.{needs}
 use Rattle.ask.proofs.query.point_at.Statement.{statement}

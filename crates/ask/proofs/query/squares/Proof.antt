@@ -1,5 +1,5 @@
 -- `query::squares` meets its contract: a law of Asked at each return.
-use Rattle.plane.proofs.Vets.{passed-plane, passed-words, vetted-done}
+use Rattle.vet.proofs.Vets.{passed-plane, passed-words, vetted-done}
 use Rattle.ask.proofs.Asked.{squares-no, squares-nowhere, squares-done}
 use borrow.Author.Tests.{not-true, not-false}
 use native.Mathlib.Omega.{arith}

@@ -1,5 +1,5 @@
 -- `query::tiles` meets its contract: a law of Asked at each return. The first listing writes nothing, so a refusal leaves the slice.
-use Rattle.plane.proofs.Vets.{passed-plane, passed-words, vetted-done}
+use Rattle.vet.proofs.Vets.{passed-plane, passed-words, vetted-done}
 use Rattle.ask.proofs.Asked.{tiles-no, tiles-nowhere, tiles-full, tiles-done}
 use borrow.Author.Tests.{not-true, not-false}
 use native.Mathlib.Omega.{arith}

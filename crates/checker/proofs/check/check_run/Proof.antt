@@ -1,7 +1,8 @@
 -- The turns so far are the beginning of the whole run: `Came` with the loop's `done`. The measure is what is left of n.
-use Rattle.checker.proofs.Turns.{waiting-plane, idle-over, came-none, came-join, ran-full, ran-idle, ran-all}
+use Rattle.sweep.proofs.Turns.{waiting-plane, idle-over, came-none, came-join}
+use Rattle.checker.proofs.Checkings.{ran-full, ran-idle, ran-all}
 use Rattle.sheet.specs.Layout.{lent}
-use Rattle.checker.specs.CheckSteps.{Came}
+use Rattle.sweep.specs.Turn.{Came}
 use lib.ListN.{length}
 use mathlib.Core.Path.{_≡_, refl, sym, _∙_}
 use native.Mathlib.Omega.{arith}

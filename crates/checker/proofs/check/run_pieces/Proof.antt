@@ -1,5 +1,6 @@
 -- The run's promise, with the pieces that wait after it.
-use Rattle.checker.proofs.Turns.{waiting-plane, pieces-full, pieces-done}
+use Rattle.sweep.proofs.Turns.{waiting-plane}
+use Rattle.checker.proofs.Checkings.{pieces-full, pieces-done}
 use borrow.Author.Needs.{needs}
 use Rattle.checker.proofs.check.run_pieces.Statement.{statement}
 use Rattle.checker.proofs.check.run_pieces.Tie as tie

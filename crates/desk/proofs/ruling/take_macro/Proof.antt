@@ -6,7 +6,7 @@ use borrow.Author.Needs.{needs}
 use Rattle.desk.proofs.Rulings.{took-late, took-used}
 use Rattle.desk.proofs.Draws.{refusal-small}
 use Rattle.desk.specs.Kept.{saidNo, tookMacro}
-use Rattle.rules.specs.declared.macros.MacroAnswer.{MacroAnswer}
+use Rattle.macros.specs.declared.macros.MacroAnswer.{MacroAnswer}
 use Rattle.desk.proofs.ruling.take_macro.Statement.{statement}
 use Rattle.desk.proofs.ruling.take_macro.Tie as tie
 

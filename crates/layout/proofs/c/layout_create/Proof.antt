@@ -1,5 +1,5 @@
 -- The number is all that is returned.
-use Rattle.sheet.proofs.Creates.{created-as}
+use Rattle.drawing.proofs.Creates.{created-as}
 use borrow.Author.Needs.{needs}
 use Rattle.layout.proofs.c.layout_create.Statement.{statement}
 use Rattle.layout.proofs.c.layout_create.Tie as tie

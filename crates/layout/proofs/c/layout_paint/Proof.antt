@@ -1,5 +1,5 @@
 -- The number is all that is returned.
-use Rattle.sheet.proofs.Paints.{painted-as}
+use Rattle.drawing.proofs.Paints.{painted-as}
 use borrow.Author.Needs.{needs}
 use Rattle.layout.proofs.c.layout_paint.Statement.{statement}
 use Rattle.layout.proofs.c.layout_paint.Tie as tie

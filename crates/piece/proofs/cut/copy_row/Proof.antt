@@ -3,8 +3,8 @@ use Prim.Native.Nat.{_+_, _-_, _≤_}
 use mathlib.Core.Path.{_≡_}
 use native.Mathlib.Omega.{arith}
 use Rattle.plane.specs.Picture.{area}
-use Rattle.piece.specs.Fill.{Drawn, rowOf}
-use Rattle.piece.proofs.Fills.{drawn-none, copy-more}
+use Rattle.piece.specs.Cut.{Drawn, rowOf}
+use Rattle.piece.proofs.Drawings.{drawn-none, copy-more}
 use borrow.Author.Needs.{needs}
 use Rattle.piece.proofs.cut.copy_row.Statement.{statement}
 use Rattle.piece.proofs.cut.copy_row.Tie as tie

@@ -6,7 +6,7 @@ use Rattle.plane.specs.Picture.{area}
 use Rattle.plane.specs.Words.{count, pictureOf}
 use Rattle.piece.specs.Cut.{RowCut}
 use Rattle.piece.proofs.Cuts.{row-start, row-more}
-use Rattle.piece.proofs.Tiles.{tile-fits, tile-end}
+use Rattle.plane.proofs.Tiles.{tile-fits, tile-end}
 use borrow.Author.Needs.{needs}
 use Rattle.piece.proofs.cut.cut_row.Statement.{statement}
 use Rattle.piece.proofs.cut.cut_row.Tie as tie

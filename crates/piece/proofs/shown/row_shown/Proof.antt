@@ -1,5 +1,5 @@
 -- `row_shown`. Each turn puts the run of one tile more above the word.
-use Rattle.piece.proofs.Tiles.{tile-end}
+use Rattle.plane.proofs.Tiles.{tile-end}
 use Rattle.piece.proofs.ShownRows.{shown-start, shown-more}
 use Rattle.piece.specs.Shown.{RowShown}
 use Rattle.plane.specs.Words.{count, pictureOf}

@@ -5,7 +5,7 @@ use mathlib.Core.Path.{_≡_, refl, _∙_}
 use lib.ListN.{length}
 use borrow.Author.Needs.{needs}
 use Rattle.plane.specs.Words.{count, height, width}
-use Rattle.strips.specs.Brush.{goal}
+use Rattle.brush.specs.Brush.{goal}
 use Rattle.strips.proofs.Covers.{RowSoFar, row-done, row-full, row-more, row-none, row-right, row-under, row-working}
 use Rattle.strips.proofs.cover.cover_row.Statement.{statement}
 use Rattle.strips.proofs.cover.cover_row.Tie as tie

@@ -5,7 +5,7 @@ use mathlib.Core.Path.{_≡_, refl, _∙_}
 use lib.ListN.{length}
 use borrow.Author.Needs.{needs}
 use Rattle.plane.specs.Words.{count, height, width}
-use Rattle.strips.specs.Brush.{goal}
+use Rattle.brush.specs.Brush.{goal}
 use Rattle.strips.proofs.Covers.{ZoneSoFar, zone-done, zone-full, zone-more, zone-none, zone-under, zone-working}
 use Rattle.strips.proofs.cover.cover_zone.Statement.{statement}
 use Rattle.strips.proofs.cover.cover_zone.Tie as tie

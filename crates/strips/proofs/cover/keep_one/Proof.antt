@@ -2,7 +2,7 @@
 use native.Mathlib.Omega.{arith}
 use borrow.Author.Needs.{needs}
 use Rattle.strips.specs.Cover.{Untouched}
-use Rattle.strips.proofs.Pieces.{read-at}
+use Rattle.brush.proofs.Pieces.{read-at}
 use Rattle.slots.proofs.Places.{said-no, said-yes}
 use Rattle.strips.proofs.Stays.{bottom-from, keep-apart, keep-low, kept-add, kept-skip, same-start, strip-in}
 use Rattle.strips.proofs.cover.keep_one.Statement.{statement}

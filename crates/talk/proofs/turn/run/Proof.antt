@@ -1,8 +1,8 @@
 -- `run`. The invariant is Running: the exchanges of the chunks so far have passed over the wire, and have led to the state. The measure is the turns left.
 use Rattle.talk.proofs.Turns.{Running, running-start, running-on, last-fit, conversed}
 use Rattle.talk.proofs.Wires.{some-left}
-use Rattle.talk.proofs.Steps.{blank-tables}
-use Rattle.talk.specs.Held.{store}
+use Rattle.lines.proofs.Steps.{blank-tables}
+use Rattle.lines.specs.Held.{store}
 use lib.Seq.{length-take-le}
 use lib.ListN.{length}
 use native.Mathlib.Omega.{arith}

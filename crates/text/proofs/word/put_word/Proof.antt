@@ -1,7 +1,6 @@
 -- `put_word`. The first i bytes of the word are put.
-use mathlib.Core.Path.{refl}
+use mathlib.Core.Path.{refl, _≡_}
 use Rattle.text.proofs.Puts.{put-none, put-next, put-all}
-use mathlib.Core.Path.{_≡_}
 use Prim.Native.Nat.{_+_, _≤_, _-_}
 use native.Mathlib.Omega.{arith}
 use borrow.Author.Needs.{needs}

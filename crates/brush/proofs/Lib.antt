@@ -1,0 +1,3 @@
+-- The laws of a brush, each file named after its subject.
+pub mod Pieces
+pub mod Spans

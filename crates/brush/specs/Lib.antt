@@ -1,0 +1,2 @@
+-- What the contracts of a brush cite.
+pub mod Brush

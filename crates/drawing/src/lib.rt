@@ -1,0 +1,3 @@
+// A layout made and painted.
+pub mod create;
+pub mod painting;

@@ -1,0 +1,2 @@
+// The macros width and spacing, and the rules that they write.
+pub mod macros;

@@ -1,0 +1,2 @@
+-- The laws of marking a piece's errors.
+pub mod MarkErrors

@@ -1,0 +1,2 @@
+-- What the contracts of marking a piece's errors cite.
+pub mod Marking

@@ -1,0 +1,2 @@
+// The errors of one piece, marked anew.
+pub mod remark;

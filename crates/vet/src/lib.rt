@@ -1,0 +1,2 @@
+// The test of a table: is a slice of words the strip table of a picture?
+pub mod vet;

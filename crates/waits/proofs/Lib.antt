@@ -1,0 +1,3 @@
+-- The laws of the waiting pieces, each file named after its subject.
+pub mod Blocks
+pub mod Waited

@@ -1,0 +1,2 @@
+// Which pieces of a window wait.
+pub mod waits;
