@@ -9,8 +9,8 @@ use Rattle.rules.specs.declared.rule.Rule.{Rule}
 use Rattle.rules.specs.Words.{haloOf, rulesOf}
 use Rattle.waits.specs.declared.waits.Block.{Block}
 use Rattle.waits.specs.declared.waits.Block.the-variants.{At, Nothing}
-use Rattle.sweep.specs.Run.{Run, afterBlock, checkRun, fitsBlock, lowestOf, turn}
-use Rattle.checker.specs.Check.{CheckLeft, Checked, checkRefusals, ranCheck, refusedCheck}
+use Rattle.sweep.specs.Run.{Run, afterBlock, checkRun, fitsBlock, lowestOf, turn, CheckLeft, ranCheck}
+use Rattle.checker.specs.Check.{Checked, checkRefusals, refusedCheck}
 use Rattle.sheet.specs.Layout.{Layout, SoundLayout}
 use Rattle.sheet.specs.Ready.{Fit}
 use Rattle.checker.proofs.Checkings.{passed-fit}

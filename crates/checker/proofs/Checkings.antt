@@ -10,7 +10,8 @@ use Rattle.plane.proofs.Lowests.{all-hold}
 use Rattle.sheet.specs.declared.shape.Tested.{Tested}
 use Rattle.sheet.specs.declared.shape.Tested.the-variants as tested
 use Rattle.sheet.specs.Answers.{readyNumber, readyPlace}
-use Rattle.checker.specs.Check.{checkRefusals, CheckLeft, ranCheck}
+use Rattle.checker.specs.Check.{checkRefusals}
+use Rattle.sweep.specs.Run.{CheckLeft, ranCheck, Run, checkRun}
 use Rattle.checker.specs.CheckSteps.{CheckTested, CheckedBut, RanPieces, Runs, RanTo}
 use Rattle.sheet.specs.Layout.{Layout}
 use Rattle.sheet.specs.Ready.{Fit, Readied, readyRefusals}
@@ -19,7 +20,6 @@ use Rattle.plane.specs.Words.{height, pictureOf, width}
 use Rattle.rules.specs.Words.{haloOf, rulesOf}
 use Rattle.waits.specs.Pieces.{waitingPieces}
 use Rattle.sweep.specs.declared.sweep.Ran.{Ran}
-use Rattle.sweep.specs.Run.{Run, checkRun}
 use Rattle.sweep.specs.Turn.{Came, OverAt, more}
 
 module _ {l : Layout} {work rules : List ℕ} {used : ℕ} where

@@ -9,28 +9,12 @@ use Rattle.plane.specs.Refusal.{_unless_, Lowest, ifDone}
 use Rattle.plane.specs.Words.{kinds}
 use Rattle.rules.specs.Vetting.{ListLength, AllSound, lowestBad}
 use Rattle.rules.specs.Words.{rulesOf, haloOf}
-use Rattle.sweep.specs.Run.{Run, checkRun, waitingOf}
+use Rattle.sweep.specs.Run.{CheckLeft, checkRun, ranCheck}
 use Rattle.sheet.specs.Layout.{Layout, room, WorkLength, IsLayout}
-
--- what check answers and leaves
-pub record CheckLeft : Type 0 where
-  pub number : ℕ
-  pub done : ℕ
-  pub left : ℕ
-  pub layout : Layout
 
 -- refused by a test: all other numbers are 0, and the layout stays
 abbrev pub refusedCheck : ℕ → Layout → CheckLeft
 refusedCheck n l = record { number = n; done = 0; left = 0; layout = l }
-
--- a run, with the pieces that wait afterwards
-abbrev pub ranCheck : Run → CheckLeft
-ranCheck r = record {
-  number = r .number;
-  done = r .done;
-  left = waitingOf (r .layout);
-  layout = r .layout;
-}
 
 -- the lengths of the tables, of the working room and of the rule list
 pub record CheckLength (l : Layout) (work rules : List ℕ) (used : ℕ) : Type 0 where

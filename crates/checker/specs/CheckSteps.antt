@@ -10,8 +10,8 @@ use Rattle.plane.specs.Words.{kinds}
 use Rattle.rules.specs.Vetting.{lowestBad}
 use Rattle.rules.specs.Words.{rulesOf, haloOf}
 use Rattle.sweep.specs.declared.sweep.Ran.{Ran}
-use Rattle.sweep.specs.Run.{checkRun}
-use Rattle.checker.specs.Check.{ranCheck, checkRefusals, Checked}
+use Rattle.sweep.specs.Run.{checkRun, ranCheck}
+use Rattle.checker.specs.Check.{checkRefusals, Checked}
 use Rattle.sheet.specs.Layout.{Layout}
 use Rattle.sheet.specs.Ready.{Fit}
 

@@ -4,5 +4,4 @@ pub mod RuleLists
 pub mod MadeSound
 pub mod Draws
 pub mod Rulings
-pub mod Looks
 pub mod Answers

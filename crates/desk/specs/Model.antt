@@ -10,8 +10,7 @@ use Rattle.plane.specs.Words as words
 use Rattle.rules.specs.declared.rule.Rule as rules
 use Rattle.macros.specs.Macros.{width, widthSound, spacing, spacingSound}
 use Rattle.rules.specs.Words.{sound, reach}
-use Rattle.sweep.specs.Run.{checkRun}
-use Rattle.checker.specs.Check.{CheckLeft, ranCheck}
+use Rattle.sweep.specs.Run.{checkRun, CheckLeft, ranCheck}
 use Rattle.drawing.specs.Create.{fresh}
 use Rattle.sheet.specs.Layout.{Layout}
 use Rattle.drawing.specs.Paint.{paintedLayout}

@@ -19,8 +19,8 @@ use Rattle.rules.specs.Words.{haloOf, rulesOf}
 use Rattle.waits.specs.declared.waits.Block.{Block}
 use Rattle.waits.specs.declared.waits.Block.the-variants.{At, Nothing}
 use Rattle.piece.proofs.Counts.{nothing-waits}
-use Rattle.sweep.specs.Run.{Run, afterBlock, checkRun, checkedPiece, fitsBlock, lowestOf, pieceErrors, pieceFits, pieceWaiting, turn, waitingOf}
-use Rattle.checker.specs.Check.{CheckLeft, Checked, checkRefusals}
+use Rattle.sweep.specs.Run.{Run, afterBlock, checkRun, checkedPiece, fitsBlock, lowestOf, pieceErrors, pieceFits, pieceWaiting, turn, waitingOf, CheckLeft}
+use Rattle.checker.specs.Check.{Checked, checkRefusals}
 use Rattle.sheet.specs.Layout.{Layout, Marks, room}
 use Rattle.sheet.specs.Ready.{Fit}
 use Rattle.sheet.specs.Report.{Findings, Reported}

@@ -21,8 +21,8 @@ use Rattle.sheet.specs.declared.report.ReportAnswer.the-variants as report
 use Rattle.sheet.specs.Answers.{reportNumber, reportPlace, reportSettled, reportSquares, reportTiles, foundBy}
 use Rattle.checker.specs.Answers.{checkNumber, checkPlace, checkDone, checkLeft}
 use Rattle.sheet.specs.Layout.{Layout}
-use Rattle.sweep.specs.Run.{checkRun}
-use Rattle.checker.specs.Check.{CheckLeft, Checked, checkRefusals, ranCheck, refusedCheck}
+use Rattle.sweep.specs.Run.{checkRun, CheckLeft, ranCheck}
+use Rattle.checker.specs.Check.{Checked, checkRefusals, refusedCheck}
 use Rattle.drawing.specs.Create.{Created}
 use Rattle.drawing.specs.Paint.{Painted}
 use Rattle.sheet.specs.Report.{Findings, Reported}

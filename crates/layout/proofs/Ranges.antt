@@ -28,8 +28,8 @@ use Rattle.waits.specs.declared.waits.Block.the-variants.{At, Nothing}
 use Rattle.waits.specs.Pieces.{blocks, pieceWaits, pieces, waitingPieces}
 use Rattle.sheet.specs.Layout.{Layout}
 use Rattle.sheet.specs.Report.{around, settled, Findings, noFindings, findings, reportRefusals, Reported}
-use Rattle.sweep.specs.Run.{Run, afterBlock, checkRun, fitsBlock, lowestOf, turn}
-use Rattle.checker.specs.Check.{CheckLeft, Checked, checkRefusals}
+use Rattle.sweep.specs.Run.{Run, afterBlock, checkRun, fitsBlock, lowestOf, turn, CheckLeft}
+use Rattle.checker.specs.Check.{Checked, checkRefusals}
 use Rattle.checker.proofs.Checkings.{passed-fit}
 use Rattle.checker.proofs.CheckStays.{leftBy, run-few, run-fit}
 use Rattle.layout.specs.Pack.{Narrow, NarrowCheck}

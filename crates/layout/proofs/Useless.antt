@@ -16,8 +16,8 @@ use Rattle.rules.specs.Forbid.{forbidden}
 use Rattle.rules.specs.Vetting.{AllSound, ListLength}
 use Rattle.rules.specs.Words.{wordsOf, rulesOf, haloOf, soundAt}
 use Rattle.piece.specs.Remark.{fullMark}
-use Rattle.sweep.specs.Run.{checkRun}
-use Rattle.checker.specs.Check.{CheckLeft, CheckLength, Checked, checkRefusals, ranCheck, refusedCheck}
+use Rattle.sweep.specs.Run.{checkRun, CheckLeft, ranCheck}
+use Rattle.checker.specs.Check.{CheckLength, Checked, checkRefusals, refusedCheck}
 use Rattle.drawing.specs.Create.{Created, createRefusals, fresh}
 use Rattle.sheet.specs.Layout.{Layout, lent, OneLength, RuleLength, SoundLayout, WorkLength}
 use Rattle.drawing.specs.Paint.{BothFit, Painted, paintRefusals}

@@ -17,8 +17,7 @@ use Rattle.rules.specs.Some.{some, Every}
 use Rattle.rules.specs.Words.{wordsOf, rulesOf, haloOf}
 use Rattle.waits.specs.Pieces.{someIn, pieces, inWindow, waitsAt, pieceWaits, waitingPieces, lowestPiece, lowestBlock}
 use Rattle.piece.specs.Remark.{remarked, nearBlock}
-use Rattle.sweep.specs.Run.{checkRun}
-use Rattle.checker.specs.Check.{CheckLeft, ranCheck}
+use Rattle.sweep.specs.Run.{checkRun, CheckLeft, ranCheck}
 use Rattle.drawing.specs.Create.{fresh}
 use Rattle.sheet.specs.Layout.{Layout}
 use Rattle.drawing.specs.Paint.{paintedLayout}

@@ -1,8 +1,8 @@
 // What the session knows beside its slices: the line so far, the desk, and how many lines have ended. A line is read, and answered.
+use answers::answer::answer;
 use commands::command::Command;
 use commands::command::command_of;
 use commands::reply::Reply;
-use desk::answer::answer;
 use desk::state::Desk;
 use text::line::Line;
 use text::line::fresh;

@@ -82,3 +82,20 @@ unfoldable pub checkRun : ℕ → List Rule → ℕ → Layout → Run
 unfolding pieceFits
 checkRun zero rs k l = stopped 0 l
 checkRun (suc n) rs k l = turn (lowestOf l) (fitsBlock l rs k (lowestOf l)) l (checkRun n rs k (afterBlock l rs k (lowestOf l)))
+
+-- ---- what check answers
+-- what it answers and leaves
+pub record CheckLeft : Type 0 where
+  pub number : ℕ
+  pub done : ℕ
+  pub left : ℕ
+  pub layout : Layout
+
+-- a run, with the pieces that wait afterwards
+abbrev pub ranCheck : Run → CheckLeft
+ranCheck r = record {
+  number = r .number;
+  done = r .done;
+  left = waitingOf (r .layout);
+  layout = r .layout;
+}

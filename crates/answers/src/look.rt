@@ -1,9 +1,9 @@
 // The commands that ask: check, which does waiting pieces, and report.
-use crate::state::Answered;
-use crate::state::Desk;
 use checker::check::CheckAnswer;
 use checker::check::check;
 use commands::reply::Reply;
+use desk::state::Answered;
+use desk::state::Desk;
 use plane::tile::Area;
 use plane::words::wide;
 use sheet::report::ReportAnswer;

@@ -1,10 +1,10 @@
 -- `after_new`. Each command by its own function; what is left over adds rules, or is no command.
 use native.Mathlib.Omega.{arith}
 use borrow.Author.Needs.{needs}
 use Rattle.desk.proofs.Answers.{adds-rules, comes-later, comes-report}
 use Rattle.sheet.specs.Layout.{lent}
-use Rattle.desk.proofs.answer.after_new.Statement.{statement}
-use Rattle.desk.proofs.answer.after_new.Tie as tie
+use Rattle.answers.proofs.answer.after_new.Statement.{statement}
+use Rattle.answers.proofs.answer.after_new.Tie as tie
 
 enum-known-c : tie.Need-enum-known-c
 enum-known-c c = search needs

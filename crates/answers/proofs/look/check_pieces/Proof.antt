@@ -1,12 +1,12 @@
 -- `check_pieces`. What check answers and leaves is the model's.
 use mathlib.Core.Path.{ap, _∙_}
 use borrow.Author.Needs.{needs}
-use Rattle.desk.proofs.Looks.{check-comes}
+use Rattle.answers.proofs.Looks.{check-comes}
 use Rattle.desk.proofs.Draws.{comes-as}
 use Rattle.desk.specs.declared.state.Answered.{Answered}
 use Rattle.commands.specs.declared.reply.Reply.{Reply}
-use Rattle.desk.proofs.look.check_pieces.Statement.{statement}
-use Rattle.desk.proofs.look.check_pieces.Tie as tie
+use Rattle.answers.proofs.look.check_pieces.Statement.{statement}
+use Rattle.answers.proofs.look.check_pieces.Tie as tie
 
 wide-requires : tie.Need-wide-requires
 wide-requires c κs = search needs

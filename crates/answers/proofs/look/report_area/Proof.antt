@@ -1,9 +1,9 @@
 -- `report_area`. Report's findings, or 6: no other refusal is left on a desk that is kept.
 use mathlib.Core.Path.{refl}
 use borrow.Author.Needs.{needs}
-use Rattle.desk.proofs.Looks.{report-none, report-found}
-use Rattle.desk.proofs.look.report_area.Statement.{statement}
-use Rattle.desk.proofs.look.report_area.Tie as tie
+use Rattle.answers.proofs.Looks.{report-none, report-found}
+use Rattle.answers.proofs.look.report_area.Statement.{statement}
+use Rattle.answers.proofs.look.report_area.Tie as tie
 
 slice-aggregate-report : tie.Need-slice-aggregate-report
 slice-aggregate-report c = search needs

@@ -1,9 +1,9 @@
 -- `before_new`. A `new` command, or any other line.
 use borrow.Author.Needs.{needs}
 use Rattle.desk.proofs.Answers.{comes-early, comes-out}
 use Rattle.sheet.specs.Layout.{lent}
-use Rattle.desk.proofs.answer.before_new.Statement.{statement}
-use Rattle.desk.proofs.answer.before_new.Tie as tie
+use Rattle.answers.proofs.answer.before_new.Statement.{statement}
+use Rattle.answers.proofs.answer.before_new.Tie as tie
 
 enum-known-c : tie.Need-enum-known-c
 enum-known-c c = search needs

@@ -1,9 +1,9 @@
 -- `answer`. After an accepted `new`, or before one.
 use borrow.Author.Needs.{needs}
 use Rattle.desk.proofs.Answers.{comes-ready, comes-first}
 use Rattle.sheet.specs.Layout.{lent}
-use Rattle.desk.proofs.answer.answer.Statement.{statement}
-use Rattle.desk.proofs.answer.answer.Tie as tie
+use Rattle.answers.proofs.answer.answer.Statement.{statement}
+use Rattle.answers.proofs.answer.answer.Tie as tie
 
 after-new-requires : tie.Need-after-new-requires
 after-new-requires c κs = search needs

@@ -1,21 +1,21 @@
 // The answer to a command: before an accepted `new`, and after it.
-use crate::draw::new_window;
-use crate::draw::paint_area;
 use crate::look::check_pieces;
 use crate::look::report_area;
-use crate::ruling::add_rules;
-use crate::state::Answered;
-use crate::state::Desk;
-use crate::state::refused;
 use commands::command::Command;
+use desk::draw::new_window;
+use desk::draw::paint_area;
+use desk::ruling::add_rules;
+use desk::state::Answered;
+use desk::state::Desk;
+use desk::state::refused;
 use plane::tile::Area;
 ghost use mathlib.Core.Bool.{true};
 ghost use mathlib.Core.List.{List};
 ghost use mathlib.Core.Path.{_≡_};
 ghost use Prim.Native.Nat.{ℕ};
 ghost use Rattle.sheet.specs.Layout.{lent};
 ghost use Rattle.desk.specs.Kept.{modelOf, Kept, Comes};
 ghost use Rattle.desk.specs.Model.{early, later, answered};
 
 // Any line that is not a `new` command is out of turn.
 fn before_new(

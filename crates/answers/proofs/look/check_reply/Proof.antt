@@ -5,8 +5,8 @@ use Rattle.commands.specs.declared.reply.Reply.{Reply}
 use Rattle.commands.specs.declared.reply.Reply.the-variants as reply
 use Rattle.checker.specs.Answers.{checkNumber, checkDone, checkLeft}
 use Rattle.checker.specs.declared.check.CheckAnswer.{CheckAnswer}
-use Rattle.desk.proofs.look.check_reply.Statement.{statement}
-use Rattle.desk.proofs.look.check_reply.Tie as tie
+use Rattle.answers.proofs.look.check_reply.Statement.{statement}
+use Rattle.answers.proofs.look.check_reply.Tie as tie
 
 -- the reply to an answer
 abbrev told : CheckAnswer → Reply
