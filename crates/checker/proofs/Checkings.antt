@@ -1,5 +1,5 @@
 -- The ways through check: its tests, what it leaves where they say no and where they pass, and how a run ends.
-use Prim.Native.Nat.{ℕ, suc, _+_, _-_, _≤_, _<_}
+use Prim.Native.Nat.{ℕ, suc, _+_, _-_, _<_}
 use native.Mathlib.Omega.{arith}
 use mathlib.Core.Path.{_≡_, refl, subst, sym, _∙_, ap}
 use mathlib.Core.Logic.{inl, inr}

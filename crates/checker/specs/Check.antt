@@ -1,16 +1,16 @@
 -- What check promises: it does the lowest waiting piece, as often as it is told or until none waits.
-use Prim.Native.Nat.{ℕ, zero, suc}
-use mathlib.Core.Bool.{Bool, true, false, cond, _&&_}
+use Prim.Native.Nat.{ℕ}
+use mathlib.Core.Bool.{cond}
 use mathlib.Core.Path.{_≡_}
 use mathlib.Core.List.{List, [], _∷_}
 use lib.ListN.{length, replicate}
-use lib.Dec.{eqb, leb}
+use lib.Dec.{eqb}
 use Rattle.plane.specs.Refusal.{_unless_, Lowest, ifDone}
 use Rattle.plane.specs.Words.{kinds}
 use Rattle.rules.specs.Vetting.{ListLength, AllSound, lowestBad}
 use Rattle.rules.specs.Words.{rulesOf, haloOf}
 use Rattle.sweep.specs.Run.{CheckLeft, checkRun, ranCheck}
-use Rattle.sheet.specs.Layout.{Layout, room, WorkLength, IsLayout}
+use Rattle.sheet.specs.Layout.{Layout, WorkLength, IsLayout}
 
 -- refused by a test: all other numbers are 0, and the layout stays
 abbrev pub refusedCheck : ℕ → Layout → CheckLeft

@@ -8,7 +8,7 @@ use plane::words::least;
 use plane::words::nth_tile;
 use plane::words::wide;
 ghost use mathlib.Core.Path.{_≡_};
-ghost use Prim.Native.Nat.{ℕ, _+_, _-_, _*_, _≤_, _<_};
+ghost use Prim.Native.Nat.{_+_, _-_, _*_, _≤_, _<_};
 ghost use lib.ListN.{length, replicate};
 ghost use Rattle.plane.specs.Picture.{area};
 ghost use Rattle.plane.specs.Plane.{Plane};

@@ -2,7 +2,6 @@
 use Prim.Native.Nat.{ℕ, zero, suc}
 use native.Mathlib.Omega.{arith}
 use mathlib.Core.Path.{_≡_, refl, sym, _∙_, ap}
-use mathlib.Core.List.{List}
 use Rattle.plane.specs.declared.answer.Answer.{Answer}
 use Rattle.plane.specs.declared.answer.Answer.the-variants as answer
 use Rattle.plane.specs.declared.answer.Counted.{Counted}

@@ -1,10 +1,10 @@
 -- What the functions that mark a piece's errors, and end its waiting, promise.
-use Prim.Native.Nat.{ℕ, suc, _+_, _*_, _≤_, _<_}
-use mathlib.Core.Bool.{Bool, true, false, cond}
+use Prim.Native.Nat.{ℕ, _*_, _<_}
+use mathlib.Core.Bool.{Bool, cond}
 use mathlib.Core.Path.{_≡_}
 use mathlib.Core.List.{List}
-use lib.Dec.{eqb, leb}
-use lib.ListN.{length, replicate}
+use lib.Dec.{leb}
+use lib.ListN.{length}
 use Rattle.plane.specs.Picture.{Picture, tiles}
 use Rattle.plane.specs.Words.{width, height, kinds, pictureOf, roomIn, TableLength, PictureTable}
 use Rattle.paint.specs.Paint.{tableLike}

@@ -1,7 +1,6 @@
--- Stitches taken over from another table: the tiles that the two share are found from both ends, a shared tile keeps its squares under its new number, and so the number moved is the number of the tile at the square.
-use Prim.Native.Nat.{ℕ, _+_, _-_, _≤_, _<_}
+-- Stitches taken over from another table: a shared tile keeps its squares under its new number, and so the number moved is the number of the tile at the square.
+use Prim.Native.Nat.{ℕ, _-_, _≤_, _<_}
 use native.Mathlib.Omega.{arith}
-use mathlib.Core.Bool.{Bool, true}
 use mathlib.Core.Path.{_≡_, sym, _∙_, ap, subst}
 use mathlib.Core.Logic.{⊎-elim}
 use mathlib.Core.List.{List}
@@ -9,61 +8,15 @@ use Rattle.plane.specs.declared.tile.Tile.{Tile}
 use Rattle.plane.specs.Picture.{before}
 use Rattle.plane.specs.Plane.{Link, Names, Stitched}
 use Rattle.plane.specs.Strips.{Holds}
-use Rattle.plane.specs.Words.{Says, count, tileOf, word}
-use Rattle.stitches.specs.declared.shared.Shared.{Shared}
-use Rattle.stitches.specs.declared.stitch.Links.{Links}
-use Rattle.stitches.specs.Restitch.{Alike, AllKnown, KnownLinks, LinksIn, Moved, MovedLinks, SameFirst, SameLast, lost, shifts, stays}
+use Rattle.plane.specs.Words.{tileOf, word}
+use Rattle.shared.specs.declared.shared.Shared.{Shared}
+use Rattle.shared.specs.declared.shared.Links.{Links}
+use Rattle.stitches.specs.Restitch.{AllKnown, KnownLinks, LinksIn}
+use Rattle.shared.specs.Shares.{Alike, Moved, MovedLinks, lost, shifts, stays}
 use Rattle.slots.specs.Slots.{Holder, Under}
 use Rattle.stitches.specs.Stitch.{LinksOf, StitchedTo, Tight, numberIn}
 use Rattle.plane.proofs.Basics.{lt-or-ge}
 use Rattle.stitches.proofs.Stitches.{before-some, links-are, number-hit}
-
--- two tiles read and found to be one
-pub read-same : {a b s t : Tile} {r : Bool} → Says r (a ≡ b) → r ≡ true → a ≡ s → b ≡ t → s ≡ t
-read-same h e p q = sym p ∙ ((rw e at h) ∙ q)
-
--- ---- the tiles that are the same, from the front
-pub first-none : (ws vs : List ℕ) (k : ℕ) → SameFirst ws vs k 0
-first-none ws vs k = record { most = omega arith; same = λ i u. absurd (omega arith) }
-
-pub first-more : {ws vs : List ℕ} {k r : ℕ} → SameFirst ws vs k r → r < k → tileOf vs r ≡ tileOf ws r → SameFirst ws vs k (r + 1)
-first-more {ws} {vs} {k} {r} S u e = record {
-  most = omega arith;
-  same = λ i v. ⊎-elim (λ (o : i < r). S .same i o) (λ (o : r ≤ i). let q : i ≡ r = omega arith in subst (λ (m : ℕ). tileOf vs m ≡ tileOf ws m) (sym q) e) (lt-or-ge i r);
-}
-
-pub first-all : {ws vs : List ℕ} {k r : ℕ} → SameFirst ws vs k r → k ≤ r → SameFirst ws vs k k
-first-all S u = record { most = omega arith; same = λ i v. S .same i (omega arith) }
-
--- ---- and from the back
-pub last-none : (ws : List ℕ) (m : ℕ) (vs : List ℕ) (n k : ℕ) → SameLast ws m vs n k 0
-last-none ws m vs n k = record { most = omega arith; same = λ i j u v. absurd (omega arith) }
-
-pub last-more : {ws vs : List ℕ} {m n k r : ℕ} → SameLast ws m vs n k r → r < k → k ≤ m → k ≤ n → tileOf vs (n - 1 - r) ≡ tileOf ws (m - 1 - r) → SameLast ws m vs n k (r + 1)
-last-more {ws} {vs} {m} {n} {k} {r} S u a b e = record {
-  most = omega arith;
-  same = λ i j v o p. ⊎-elim
-      (λ (q : i + r < m). let x : j ≡ n - 1 - r = omega arith in let y : i ≡ m - 1 - r = omega arith in
-      subst (λ (z : ℕ). tileOf vs z ≡ tileOf ws i) (sym x) (subst (λ (z : ℕ). tileOf vs (n - 1 - r) ≡ tileOf ws z) (sym y) e))
-      (λ (q : m ≤ i + r). S .same i j q o p) (lt-or-ge (i + r) m);
-}
-
-pub last-all : {ws vs : List ℕ} {m n k r : ℕ} → SameLast ws m vs n k r → k ≤ r → SameLast ws m vs n k k
-last-all S u = record { most = omega arith; same = λ i j v o p. S .same i j (omega arith) o p }
-
--- both together: r tiles at the front and d at the back
-pub alike-found : {ws vs : List ℕ} {m n k l r d : ℕ} → SameFirst ws vs k r → SameLast ws m vs n l d → m ≡ count ws → m ≤ 65535 → k ≤ m → k ≤ n → l + r ≤ k
-    → Alike ws vs n (record { low = r; old = m - d; end = m; new = n - d })
-alike-found F L e u a b c = record {
-  all = e;
-  few = u;
-  low-old = omega (arith, L .most);
-  low-new = omega (arith, L .most);
-  back = omega arith;
-  ends = omega (arith, L .most);
-  first = F .same;
-  last = λ i j v o p. L .same i j (omega (arith, L .most)) o (omega (arith, L .most));
-}
 
 -- while stitches are set the tiles stay, and so those shared
 pub alike-still : {ws us vs : List ℕ} {n i : ℕ} {s : Shared} → Alike ws us n s → StitchedTo us n vs i → Alike ws vs n s

@@ -9,7 +9,7 @@ use Rattle.plane.specs.declared.tile.Tile.{Tile}
 use Rattle.plane.specs.Picture.{before, tileWords}
 use Rattle.plane.specs.Strips.{Box, Holds}
 use Rattle.plane.specs.Words.{tileOf, upTo, word}
-use Rattle.stitches.specs.declared.stitch.Links.{Links}
+use Rattle.shared.specs.declared.shared.Links.{Links}
 use Rattle.slots.specs.Slots.{Sought}
 use Rattle.stitches.specs.Stitch.{LinksOf, PutLinks, SameTiles, StitchedTo, Tight, numberIn, tilesTo, wordOf}
 use Rattle.plane.proofs.Basics.{lt-or-ge}

@@ -8,7 +8,7 @@ use Rattle.plane.specs.declared.tile.Tile.{Tile}
 use Rattle.plane.specs.Picture.{numberFrom, tileWords}
 use Rattle.plane.specs.Strips.{Box, Holds}
 use Rattle.plane.specs.Words.{word, tileOf, upTo}
-use Rattle.stitches.specs.declared.stitch.Links.{Links}
+use Rattle.shared.specs.declared.shared.Links.{Links}
 
 -- the first n tiles
 abbrev pub tilesTo : List ℕ → ℕ → List Tile

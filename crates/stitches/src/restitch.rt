@@ -1,8 +1,4 @@
 // The stitches of a table that has most tiles of another: those to tiles that both have are taken over from the other, and the rest is looked for.
-use crate::shared::Shared;
-use crate::shared::moved_links;
-use crate::shared::shared_tiles;
-use crate::stitch::Links;
 use crate::stitch::number_inside;
 use crate::stitch::put_links;
 use crate::stitch::stitch;
@@ -14,6 +10,10 @@ use plane::words::less;
 use plane::words::nth_tile;
 use plane::words::wide;
 use plane::words::word_at;
+use shared::shared::Links;
+use shared::shared::Shared;
+use shared::shared::moved_links;
+use shared::shared::shared_tiles;
 use slots::slots::held_at;
 ghost use mathlib.Core.Path.{_≡_};
 ghost use Prim.Native.Nat.{_+_, _-_, _*_, _<_, _≤_};
@@ -24,7 +24,8 @@ ghost use Rattle.plane.specs.Strips.{Box};
 ghost use Rattle.plane.specs.Words.{Says, count, height, tileOf, width};
 ghost use Rattle.slots.specs.Slots.{Holder, Under};
 ghost use Rattle.stitches.specs.Stitch.{numberIn, Tight, LinksOf, StitchedTo};
-ghost use Rattle.stitches.specs.Restitch.{Alike, AllKnown, KnownLinks, LinksIn};
+ghost use Rattle.stitches.specs.Restitch.{AllKnown, KnownLinks, LinksIn};
+ghost use Rattle.shared.specs.Shares.{Alike};
 
 // The four stitches of tile i of t.
 fn links_at(t: &[u16], i: usize) -> Links

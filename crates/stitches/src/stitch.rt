@@ -3,6 +3,7 @@ use plane::tile::Tile;
 use plane::words::less;
 use plane::words::nth_tile;
 use plane::words::wide;
+use shared::shared::Links;
 use slots::slots::find_back;
 use slots::slots::find_on;
 ghost use mathlib.Core.Path.{_≡_};
@@ -10,14 +11,6 @@ ghost use Prim.Native.Nat.{_+_, _*_, _<_, _≤_};
 ghost use lib.ListN.{length};
 ghost use Rattle.plane.specs.Picture.{before};
 ghost use Rattle.stitches.specs.Stitch.{numberIn, Tight, LinksOf, PutLinks, SameTiles, StitchedTo};
-
-// The four stitches of a tile.
-pub struct Links {
-    pub lb: u16,
-    pub bl: u16,
-    pub tr: u16,
-    pub rt: u16,
-}
 
 // The number of the tile that holds (x,y), looked for from tile i down and then up; 65535 where there is none.
 pub fn number_low(work: &[u16], n: usize, w: u16, h: u16, i: usize, x: u16, y: u16) -> u16

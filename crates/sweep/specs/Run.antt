@@ -1,12 +1,10 @@
 -- A run of check: the lowest waiting piece, as often as told or until none waits; and what one piece comes to.
 use Prim.Native.Nat.{ℕ, zero, suc}
-use mathlib.Core.Bool.{Bool, true, false, cond, _&&_}
-use mathlib.Core.Path.{_≡_}
-use mathlib.Core.List.{List, [], _∷_}
-use lib.ListN.{length, replicate}
-use lib.Dec.{eqb, leb}
+use mathlib.Core.Bool.{Bool, true, false, _&&_}
+use mathlib.Core.List.{List}
+use lib.ListN.{length}
+use lib.Dec.{leb}
 use Rattle.plane.specs.Picture.{Picture, tiles, painted}
-use Rattle.plane.specs.Refusal.{_unless_}
 use Rattle.plane.specs.Words.{width, height, pictureOf}
 use Rattle.paint.specs.Paint.{tableLike}
 use Rattle.rules.specs.declared.rule.Rule.{Rule}

@@ -3,8 +3,7 @@ use Prim.Native.Nat.{ℕ, suc, _+_, _*_, _≤_, _<_}
 use mathlib.Core.Bool.{Bool, true, false, cond}
 use mathlib.Core.Path.{_≡_}
 use mathlib.Core.List.{List}
-use lib.Dec.{eqb, leb}
-use lib.ListN.{length, replicate}
+use lib.ListN.{length}
 use Rattle.plane.specs.Picture.{Picture}
 use Rattle.plane.specs.Words.{width, height, pictureOf}
 use Rattle.paint.specs.Paint.{tableLike}

@@ -11,7 +11,7 @@ use plane::words::table_length;
 use plane::words::wide;
 use plane::words::word_at;
 ghost use mathlib.Core.Path.{_≡_};
-ghost use Prim.Native.Nat.{ℕ, _+_, _-_, _*_, _<_, _≤_};
+ghost use Prim.Native.Nat.{_+_, _-_, _*_, _<_, _≤_};
 ghost use lib.ListN.{length};
 ghost use Rattle.plane.specs.Answers.{number};
 ghost use Rattle.plane.specs.Words.{Says, Tells, Header, IsTable, count, width, height};

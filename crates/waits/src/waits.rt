@@ -5,7 +5,7 @@ use plane::words::nth_tile;
 use plane::words::wide;
 use plane::words::word_at;
 ghost use mathlib.Core.Path.{_≡_};
-ghost use Prim.Native.Nat.{ℕ, _+_, _*_, _≤_, _<_, min};
+ghost use Prim.Native.Nat.{_+_, _*_, _≤_, _<_, min};
 ghost use lib.ListN.{length};
 ghost use Rattle.plane.specs.Words.{count, width, height, pictureOf};
 ghost use Rattle.plane.specs.Plane.{Plane, Boxed};

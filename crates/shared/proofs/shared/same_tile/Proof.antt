@@ -3,8 +3,8 @@ use native.Mathlib.Omega.{arith}
 use mathlib.Core.Path.{ap}
 use Rattle.plane.specs.declared.tile.Tile.{Tile}
 use Rattle.plane.proofs.Tiling.{tile-ext}
-use Rattle.stitches.proofs.shared.same_tile.Statement.{statement}
-use Rattle.stitches.proofs.shared.same_tile.Tie as tie
+use Rattle.shared.proofs.shared.same_tile.Statement.{statement}
+use Rattle.shared.proofs.shared.same_tile.Tie as tie
 
 returns : tie.Need-returns
 returns c = λ e. let f = ap (λ (t : Tile). t .left) e in omega arith

@@ -1,10 +1,10 @@
 -- The first i tiles are the same: `SameFirst` with the loop's variable for its end.
 use Prim.Native.Nat.{_-_}
 use native.Mathlib.Omega.{arith}
-use Rattle.stitches.specs.Restitch.{SameFirst}
-use Rattle.stitches.proofs.Moves.{first-all, first-more, first-none, read-same}
-use Rattle.stitches.proofs.shared.same_first.Statement.{statement}
-use Rattle.stitches.proofs.shared.same_first.Tie as tie
+use Rattle.shared.specs.Shares.{SameFirst}
+use Rattle.shared.proofs.Alikes.{first-all, first-more, first-none, read-same}
+use Rattle.shared.proofs.shared.same_first.Statement.{statement}
+use Rattle.shared.proofs.shared.same_first.Tie as tie
 
 abbrev Inv-loop : tie.InvT-loop
 Inv-loop t work most i₀ i = SameFirst t work most i

@@ -1,9 +1,9 @@
 -- The tiles found the same at both ends, by `alike-found`.
 use native.Mathlib.Omega.{arith}
 use borrow.Author.Needs.{needs}
-use Rattle.stitches.proofs.Moves.{alike-found}
-use Rattle.stitches.proofs.shared.shared_tiles.Statement.{statement}
-use Rattle.stitches.proofs.shared.shared_tiles.Tie as tie
+use Rattle.shared.proofs.Alikes.{alike-found}
+use Rattle.shared.proofs.shared.shared_tiles.Statement.{statement}
+use Rattle.shared.proofs.shared.shared_tiles.Tie as tie
 
 shared-slice-read-wide : tie.Need-shared-slice-read-wide
 shared-slice-read-wide c = search needs

@@ -2,9 +2,9 @@
 use native.Mathlib.Omega.{arith}
 use mathlib.Core.Path.{refl}
 use borrow.Author.Needs.{needs}
-use Rattle.stitches.specs.Restitch.{lost, shifts, stays}
-use Rattle.stitches.proofs.shared.moved.Statement.{statement}
-use Rattle.stitches.proofs.shared.moved.Tie as tie
+use Rattle.shared.specs.Shares.{lost, shifts, stays}
+use Rattle.shared.proofs.shared.moved.Statement.{statement}
+use Rattle.shared.proofs.shared.moved.Tie as tie
 
 wide-requires : tie.Need-wide-requires
 wide-requires c κs = search needs

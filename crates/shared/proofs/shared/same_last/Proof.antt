@@ -1,10 +1,10 @@
 -- The last k tiles are the same: `SameLast` with the loop's variable for its end.
 use Prim.Native.Nat.{_-_}
 use native.Mathlib.Omega.{arith}
-use Rattle.stitches.specs.Restitch.{SameLast}
-use Rattle.stitches.proofs.Moves.{last-all, last-more, last-none, read-same}
-use Rattle.stitches.proofs.shared.same_last.Statement.{statement}
-use Rattle.stitches.proofs.shared.same_last.Tie as tie
+use Rattle.shared.specs.Shares.{SameLast}
+use Rattle.shared.proofs.Alikes.{last-all, last-more, last-none, read-same}
+use Rattle.shared.proofs.shared.same_last.Statement.{statement}
+use Rattle.shared.proofs.shared.same_last.Tie as tie
 
 abbrev Inv-loop : tie.InvT-loop
 Inv-loop t m work n most k₀ k = SameLast t m work n most k

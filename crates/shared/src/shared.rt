@@ -1,5 +1,4 @@
 // What two tables share: their first tiles, their last tiles, and the number that such a tile has in the other table.
-use crate::stitch::Links;
 use plane::tile::Tile;
 use plane::words::least;
 use plane::words::nth_tile;
@@ -9,7 +8,15 @@ ghost use Prim.Native.Nat.{_+_, _-_, _*_, _<_, _≤_};
 ghost use lib.ListN.{length};
 ghost use Rattle.plane.specs.Plane.{Plane};
 ghost use Rattle.plane.specs.Words.{Says};
-ghost use Rattle.stitches.specs.Restitch.{Alike, Moved, MovedLinks, SameFirst, SameLast};
+ghost use Rattle.shared.specs.Shares.{Alike, Moved, MovedLinks, SameFirst, SameLast};
+
+// The four stitches of a tile.
+pub struct Links {
+    pub lb: u16,
+    pub bl: u16,
+    pub tr: u16,
+    pub rt: u16,
+}
 
 // The tiles that two tables share: the first `low` of both, and tiles `old` to `end` - 1 of the one, which are those from `new` on in the other.
 pub struct Shared {

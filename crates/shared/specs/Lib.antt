@@ -1,0 +1,2 @@
+-- What the contracts of the shared tiles cite.
+pub mod Shares

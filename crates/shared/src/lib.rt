@@ -1,0 +1,2 @@
+// What two tables share.
+pub mod shared;
