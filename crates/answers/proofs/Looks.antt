@@ -1,20 +1,20 @@
 -- What check and report come to: their own outcomes, on a desk that is kept, are the model's.
-use Prim.Native.Nat.{ℕ, zero, suc, _≤_, _<_}
+use Prim.Native.Nat.{ℕ, _≤_, _<_}
 use native.Mathlib.Omega.{arith}
 use mathlib.Core.Bool.{Bool, true, false, cond}
 use mathlib.Core.Path.{_≡_, refl, sym, _∙_, ap, subst}
 use mathlib.Core.List.{List, [], _∷_}
-use lib.ListN.{length, length-append}
+use lib.ListN.{length}
 use lib.Dec.{leb}
 use types.Run.{OneOf, miss}
 use denote.Enum.Declared.{tagOf}
 use borrow.Author.Tests.{le-leb}
 use Rattle.plane.specs.declared.tile.Area.{Area}
-use Rattle.plane.specs.Area.{AreaIn, meets, tilesIn}
+use Rattle.plane.specs.Area.{AreaIn, tilesIn}
 use Rattle.plane.specs.Listing.{Fits}
-use Rattle.plane.specs.Picture.{joined}
+use Rattle.plane.proofs.Listings.{listed-few}
 use Rattle.plane.specs.Refusal.{_unless_, ifDone}
-use Rattle.plane.specs.Words.{count, width, height, kinds, roomIn, tileOf}
+use Rattle.plane.specs.Words.{width, height, kinds, roomIn}
 use Rattle.rules.specs.Vetting.{AllSound}
 use Rattle.rules.specs.Words.{rulesOf, haloOf}
 use Rattle.checker.specs.declared.check.CheckAnswer.{CheckAnswer}
@@ -65,20 +65,6 @@ check-comes {d} {l} {l′} {work} {work′} {ws} {k} {n} r q K ready T W C =
     }
 
 -- ---- report
-one-few : (b : Bool) (i : ℕ) → length (cond b (i ∷ []) []) ≤ 1
-one-few true i = omega arith
-one-few false i = omega arith
-
-joined-few : (n : ℕ) (f : ℕ → List ℕ) → ((i : ℕ) → length (f i) ≤ 1) → length (joined n f) ≤ n
-unfolding joined
-joined-few zero f h = omega arith
-joined-few (suc n) f h = let a = joined-few n f h in let b = length-append (joined n f) (f n) in omega (arith, a, b, h n)
-
--- the tiles of an area are no more than the table's
-tiles-few : (ws : List ℕ) (k : ℕ) (a : Area) → length (tilesIn ws k a) ≤ count ws
-unfolding tilesIn
-tiles-few ws k a = joined-few (count ws) (λ i. cond (meets (tileOf ws i) k a) (i ∷ []) []) (λ i. one-few (meets (tileOf ws i) k a) i)
-
 -- an area in the window, and one that is not
 found : (b : Bool) {k : ℕ} (s x y : Reply) → k ≤ 0 → k ≡ cond b 0 6 → s ≡ x → s ≡ cond b x y
 found true s x y u e p = p
@@ -100,7 +86,7 @@ module _ {d : Desk} {l : Layout} {work ws : List ℕ} (a : Area) (out : List ℕ
       let six = 6 unless AreaIn (width (l .material)) (height (l .material)) a ∷ 7 unless Fits ts out ∷ [] in
       let four = 4 unless AllSound ws (d .used) (kinds (l .material)) ∷ six in
       let r : roomIn (length (l .errors)) ≡ 400 = ap roomIn (K .tables .errors) in
-      let few : leb (length ts) (length out) ≡ true = le-leb (length ts) (length out) (omega (arith, long, r, tiles-few (l .errors) 1 a, F .tables .errors .table .room)) in
+      let few : leb (length ts) (length out) ≡ true = le-leb (length ts) (length out) (omega (arith, long, r, listed-few (l .errors) 1 a, F .tables .errors .table .room)) in
       decided six ((6, inside) ∷ (7, leb (length ts) (length out)) ∷ []) (refl, (area-is (width (l .material)) (height (l .material)) a, (refl, (leb-is (length ts) (length out), tt))))
       (passed (4 unless AllSound ws (d .used) (kinds (l .material))) six (F .sound)
       (passed (3 unless IsLayout l) four (F .tables) (passed (1 unless RuleLength l ws (d .used)) (3 unless IsLayout l ∷ four) (F .lengths) (R .outcome .number))))

@@ -6,7 +6,7 @@ use plane::tile::Tile;
 use plane::words::less;
 use plane::words::nth_tile;
 ghost use mathlib.Core.Path.{_≡_};
-ghost use Prim.Native.Nat.{ℕ, _+_, _-_, _<_, _≤_};
+ghost use Prim.Native.Nat.{_<_, _≤_};
 ghost use lib.ListN.{length};
 ghost use Rattle.plane.specs.Listing.{ListedTo};
 ghost use Rattle.plane.specs.Picture.{before};

@@ -7,7 +7,6 @@ use sweep::sweep::one_turn;
 use waits::waits::Block;
 use waits::waits::lowest_waiting;
 use waits::waits::waiting_pieces;
-ghost use Prim.Native.Nat.{_+_, _-_};
 ghost use Rattle.sheet.specs.Answers.{readyNumber, readyPlace};
 ghost use Rattle.sheet.specs.Layout.{lent};
 ghost use Rattle.checker.specs.Check.{Checked};

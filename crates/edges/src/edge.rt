@@ -2,7 +2,7 @@
 use rules::rule::Rule;
 use rules::rule::member;
 ghost use mathlib.Core.Path.{_≡_};
-ghost use Prim.Native.Nat.{ℕ, _+_, _*_, _≤_, _<_};
+ghost use Prim.Native.Nat.{_+_, _≤_, _<_};
 ghost use lib.ListN.{getD};
 ghost use Rattle.edges.specs.Edge.{Marked, Local, Small, Steps, one, deep, past, edgeAt, turnsAt, hit, goesHit};
 

@@ -8,7 +8,7 @@ use plane::words::wide;
 use rules::rule::Rule;
 use rules::rule::rule_at;
 ghost use mathlib.Core.Path.{_≡_};
-ghost use Prim.Native.Nat.{ℕ, _+_, _-_, _*_, _≤_, _<_, max};
+ghost use Prim.Native.Nat.{_+_, _-_, _*_, _≤_, _<_, max};
 ghost use lib.ListN.{length, getD};
 ghost use Rattle.rules.specs.Words.{ruleAt};
 ghost use Rattle.edges.specs.Chains.{cell, Linked, Chained};

@@ -7,13 +7,14 @@ use mathlib.Core.Path.{_≡_, ap, refl, sym, subst}
 use mathlib.Core.Logic.{inl, inr, ⊎-elim, _⊎_}
 use mathlib.Core.List.{List, [], _∷_}
 use lib.Dec.{eqb}
-use lib.ListN.{length, length-append}
+use lib.ListN.{length}
 use Rattle.plane.specs.declared.tile.Area.{Area}
-use Rattle.plane.specs.Area.{meets, squaresIn, tilesIn}
-use Rattle.plane.specs.Picture.{Picture, joined, sumTo}
+use Rattle.plane.specs.Area.{squaresIn}
+use Rattle.plane.proofs.Listings.{listed-few}
+use Rattle.plane.specs.Picture.{Picture, sumTo}
 use Rattle.plane.specs.Point.{pointRefusals, Pointed}
 use Rattle.plane.specs.Refusal.{Lowest, Outcome}
-use Rattle.plane.specs.Words.{count, width, height, kinds, tileOf, pictureOf, roomIn}
+use Rattle.plane.specs.Words.{width, height, kinds, pictureOf, roomIn}
 use Rattle.plane.proofs.Basics.{lt-or-ge}
 use Rattle.plane.proofs.FromTable.{table-plane}
 use Rattle.plane.proofs.Lowests.{all-hold}
@@ -46,19 +47,6 @@ lowest-within n (c ∷ cs) z w (inl p) = omega (arith, w .0, p .1)
 lowest-within n (c ∷ cs) z w (inr p) = lowest-within n cs z (w .1) (p .1)
 
 -- ---- report
-joined-short : (n : ℕ) (f : ℕ → List ℕ) → ((i : ℕ) → length (f i) ≤ 1) → length (joined n f) ≤ n
-unfolding joined
-joined-short zero f h = omega arith
-joined-short (suc n) f h = omega (arith, length-append (joined n f) (f n), joined-short n f h, h n)
-
-tiles-few : (ws : List ℕ) (k : ℕ) (a : Area) → length (tilesIn ws k a) ≤ count ws
-unfolding tilesIn
-tiles-few ws k a = joined-short (count ws) (λ i. cond (meets (tileOf ws i) k a) (i ∷ []) []) (λ i. one (meets (tileOf ws i) k a) i)
-  where
-    one : (b : Bool) (i : ℕ) → length (cond b (i ∷ []) []) ≤ 1
-    one true i = omega arith
-    one false i = omega arith
-
 pub bit-few : (b : Bool) → cond b 1 0 ≤ 1
 bit-few true = omega arith
 bit-few false = omega arith
@@ -114,7 +102,7 @@ module _ {l : Layout} {rules : List ℕ} {used : ℕ} {a : Area} {out : List ℕ
       let A = g .1 .1 .1 .0 in (
         omega (arith, ap (λ (x : Findings). x .settled) e, settled-few (l .waiting) (haloOf rules used) a),
         omega (arith, ap (λ (x : Findings). x .squares) e, squares-few (pictureOf (l .errors)) 1 a (omega (arith, A .in-x, I .material .header .sizes .wide-most)) (omega (arith, A .in-y, I .material .header .sizes .tall-most))),
-        omega (arith, ap (λ (x : Findings). x .tiles) e, tiles-few (l .errors) 1 a, I .errors .table .room, ap roomIn (L .errors), L .material .most),
+        omega (arith, ap (λ (x : Findings). x .tiles) e, listed-few (l .errors) 1 a, I .errors .table .room, ap roomIn (L .errors), L .material .most),
       )
   found-few (suc n) f o =
       let e = o .leaves in

@@ -7,7 +7,7 @@ use plane::words::nth_tile;
 use plane::words::wide;
 ghost use mathlib.Core.Path.{_≡_};
 ghost use mathlib.Core.Bool.{true};
-ghost use Prim.Native.Nat.{ℕ, _*_, _≤_, _<_};
+ghost use Prim.Native.Nat.{_*_, _≤_, _<_};
 ghost use Rattle.plane.specs.Plane.{Plane};
 ghost use Rattle.plane.specs.Words.{width, height, pictureOf, Says};
 ghost use Rattle.piece.specs.Calm.{Calm, Covers, Interior};

@@ -4,7 +4,7 @@ use edges::near::mark_near;
 use plane::tile::Area;
 use plane::words::wide;
 ghost use mathlib.Core.Path.{_≡_};
-ghost use Prim.Native.Nat.{ℕ, _+_, _-_, _*_, _%_, _≤_, _<_, min};
+ghost use Prim.Native.Nat.{_+_, _-_, _*_, _%_, _≤_, _<_, min};
 ghost use Rattle.plane.specs.Words.{width, height, pictureOf};
 ghost use Rattle.rules.specs.Words.{rulesOf};
 ghost use Rattle.piece.specs.Remark.{lowEnd, highEnd, nearArea, BlockIn, Checkable};

@@ -6,7 +6,7 @@ use plane::words::nth_tile;
 use plane::words::wide;
 ghost use mathlib.Core.Bool.{true};
 ghost use mathlib.Core.Path.{_≡_};
-ghost use Prim.Native.Nat.{_+_, _-_, _≤_, _<_, _^_};
+ghost use Prim.Native.Nat.{_≤_, _<_, _^_};
 ghost use Rattle.plane.specs.Picture.{area};
 ghost use Rattle.plane.specs.Words.{count, pictureOf};
 ghost use Rattle.piece.specs.Shown.{Readable, RowShown, SameWords, ShowsRows, withRun};

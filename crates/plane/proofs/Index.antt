@@ -1,10 +1,10 @@
 -- Lists of tiles by index: length, members, order, the first that holds a square.
-use Prim.Native.Nat.{ℕ, zero, suc, _+_, _≤_, _<_}
+use Prim.Native.Nat.{ℕ, zero, suc, _+_, _-_, _≤_, _<_}
 use native.Mathlib.Omega.{arith}
 use mathlib.Core.Bool.{true, false}
 use mathlib.Core.Path.{_≡_, refl, sym, _∙_, ap}
 use mathlib.Core.Logic.{_⊎_, inl, inr, ⊎-elim}
-use mathlib.Core.List.{List, [], _∷_, List·Memᴰ, List·Memᴰ·head, List·Memᴰ·tail, List·Memᴰ·not-nil, List·Memᴰ·eq-of-singleton}
+use mathlib.Core.List.{List, [], _∷_, _++_, List·Memᴰ, List·Memᴰ·head, List·Memᴰ·tail, List·Memᴰ·not-nil, List·Memᴰ·eq-of-singleton}
 use lib.ListN.{length, getD, length-append, List·getD-append}
 use lib.Seq.{getD-append-add, ext-getD}
 use lib.Dec.{leb, ltb}
@@ -49,6 +49,22 @@ mem-upTo n f i h = mem-joined n (λ i. f i ∷ []) i h (List·Memᴰ·head refl)
 -- a list is its members by number
 pub as-upTo : (ts : List Tile) → upTo (length ts) (nth ts) ≡ ts
 as-upTo ts = ext-getD no-tile (upTo (length ts) (nth ts)) ts (length-upTo (length ts) (nth ts)) (λ i h. nth-upTo (length ts) (nth ts) i (omega (arith, length-upTo (length ts) (nth ts))))
+
+-- tiles by number, of which the first m are one list and the rest another
+pub upTo-append : (m n : ℕ) (f g h : ℕ → Tile) → ((i : ℕ) → i < m → f i ≡ g i) → ((i : ℕ) → i < n → f (m + i) ≡ h i) → upTo (m + n) f ≡ upTo m g ++ upTo n h
+upTo-append m n f g h a b = ext-getD no-tile (upTo (m + n) f) (upTo m g ++ upTo n h) (length-upTo (m + n) f ∙ sym l) (λ i u. nth-upTo (m + n) f i (omega (arith, length-upTo (m + n) f)) ∙ go i (omega (arith, length-upTo (m + n) f)))
+  where
+    l : length (upTo m g ++ upTo n h) ≡ m + n
+    l = length-append (upTo m g) (upTo n h) ∙ omega (arith, length-upTo m g, length-upTo n h)
+
+    go : (i : ℕ) → i < m + n → f i ≡ nth (upTo m g ++ upTo n h) i
+    go i u = ⊎-elim
+        (λ (v : i < m). a i v ∙ sym (List·getD-append (upTo m g) (upTo n h) no-tile i (omega (arith, length-upTo m g)) ∙ nth-upTo m g i v))
+        (λ (v : m ≤ i).
+        let d : i ≡ m + (i - m) = omega arith in
+        let e : i ≡ length (upTo m g) + (i - m) = omega (arith, length-upTo m g) in
+        ap f d ∙ (b (i - m) (omega arith) ∙ sym (ap (nth (upTo m g ++ upTo n h)) e ∙ (getD-append-add (upTo m g) (upTo n h) (i - m) no-tile ∙ nth-upTo n h (i - m) (omega arith)))))
+        (lt-or-ge i m)
 
 pub mem-nth : {t : Tile} (ts : List Tile) → List·Memᴰ t ts → (i : ℕ) × (i < length ts) × (t ≡ nth ts i)
 mem-nth ts m = upTo-mem (length ts) (nth ts) (rw (← as-upTo ts) at m)

@@ -2,14 +2,19 @@
 use Prim.Native.Nat.{ℕ, _+_, _-_, _≤_, _<_}
 use native.Mathlib.Numerals.{add-one}
 use native.Mathlib.Omega.{arith}
+use mathlib.Core.Bool.{Bool, true, false, cond}
 use mathlib.Core.Path.{_≡_, refl, sym, _∙_, ap}
 use mathlib.Core.Logic.{inl, inr, ⊎-elim}
 use mathlib.Core.List.{List, [], _∷_, append-nil}
 use lib.ListN.{length, getD, set, drop, length-append, length-drop, length-set, List·getD-append}
 use lib.Seq.{getD-set-same, getD-set-other, getD-append-add, getD-at, getD-drop, ext-getD}
+use Rattle.plane.specs.declared.tile.Area.{Area}
+use Rattle.plane.specs.Area.{meets, tilesIn}
 use Rattle.plane.specs.Picture.{joined}
 use Rattle.plane.specs.Listing.{ListedTo, Lists, listed}
+use Rattle.plane.specs.Words.{count, tileOf}
 use Rattle.plane.proofs.Basics.{lt-or-ge}
+use Rattle.plane.proofs.Lists.{joined-few}
 
 -- before the first step
 pub listed-none : {most : ℕ} {out : List ℕ} → ListedTo [] most out out 0
@@ -73,3 +78,12 @@ written {ns} {out} {after} {most} {r} L a b =
     let s : i ≡ length ns + (i - r) = omega arith in
     L .old i (inl v) ∙ (ap (λ (n : ℕ). getD out n 0) s ∙ (sym (getD-drop (length ns) out (i - r) 0) ∙ (sym (getD-append-add ns (drop (length ns) out) (i - r) 0) ∙ ap (λ (n : ℕ). getD (listed ns out) n 0) (sym s)))))
     (lt-or-ge i r))
+
+-- the tiles of an area are no more than the table's
+pub listed-few : (ws : List ℕ) (k : ℕ) (a : Area) → length (tilesIn ws k a) ≤ count ws
+unfolding tilesIn
+listed-few ws k a = omega (arith, joined-few (count ws) (λ i. cond (meets (tileOf ws i) k a) (i ∷ []) []) 1 (λ i. one (meets (tileOf ws i) k a) i))
+  where
+    one : (b : Bool) (i : ℕ) → length (cond b (i ∷ []) []) ≤ 1
+    one true i = omega arith
+    one false i = omega arith

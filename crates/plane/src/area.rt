@@ -10,7 +10,7 @@ use crate::words::wide;
 ghost use mathlib.Core.Bool.{cond};
 ghost use mathlib.Core.List.{[], _∷_};
 ghost use mathlib.Core.Path.{_≡_};
-ghost use Prim.Native.Nat.{ℕ, _+_, _-_, _*_, _<_, _≤_};
+ghost use Prim.Native.Nat.{_+_, _≤_};
 ghost use lib.ListN.{length};
 ghost use Rattle.plane.specs.Area.{AreaIn, squaresIn, meets, tilesIn, shared};
 ghost use Rattle.plane.specs.Plane.{Plane};

@@ -1,7 +1,7 @@
 // Writing a list of numbers to a lent slice. A listing goes twice over what it lists: to count, writing none, and then to write all.
 ghost use mathlib.Core.List.{[], _∷_};
 ghost use mathlib.Core.Path.{_≡_};
-ghost use Prim.Native.Nat.{ℕ, _+_, _≤_};
+ghost use Prim.Native.Nat.{_+_, _≤_};
 ghost use lib.ListN.{length};
 ghost use Rattle.plane.specs.Listing.{Lists};
 

@@ -1,7 +1,7 @@
 // The words of a table: where its tiles stand in it, and what length and sizes are a table's.
 use crate::tile::Tile;
 ghost use mathlib.Core.Path.{_≡_};
-ghost use Prim.Native.Nat.{ℕ, _+_, _-_, _*_, _<_, _≤_, min, max};
+ghost use Prim.Native.Nat.{_+_, _-_, _*_, _<_, _≤_, min, max};
 ghost use lib.ListN.{length, getD};
 ghost use Rattle.plane.specs.Words.{word, tileOf, roomIn, TableLength, InRange, Says};
 

@@ -9,7 +9,6 @@ use plane::tile::Area;
 use plane::words::room_in;
 use rules::list::halo_of;
 ghost use mathlib.Core.Path.{_≡_};
-ghost use Prim.Native.Nat.{_-_};
 ghost use lib.ListN.{length};
 ghost use Rattle.plane.specs.Picture.{painted, stamped};
 ghost use Rattle.plane.specs.Words.{width, height, kinds, pictureOf};

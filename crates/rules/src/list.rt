@@ -5,7 +5,7 @@ use plane::answer::Answer;
 use plane::answer::Refusal;
 use plane::words::most;
 ghost use mathlib.Core.Path.{_≡_};
-ghost use Prim.Native.Nat.{ℕ, _*_, _≤_};
+ghost use Prim.Native.Nat.{_*_, _≤_};
 ghost use lib.ListN.{length};
 ghost use Rattle.plane.specs.Answers.{number};
 ghost use Rattle.plane.specs.Words.{Says};

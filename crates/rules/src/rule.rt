@@ -1,6 +1,6 @@
 // One rule: its eight words, its sets of types, and its ranges. No public calls: whoever uses these has tested the list's length and T.
 ghost use mathlib.Core.Path.{_≡_};
-ghost use Prim.Native.Nat.{ℕ, _+_, _*_, _≤_, _<_};
+ghost use Prim.Native.Nat.{_+_, _*_, _≤_, _<_};
 ghost use lib.ListN.{length};
 ghost use Rattle.rules.specs.Sets.{member};
 ghost use Rattle.rules.specs.Words.{ruleAt, sound};

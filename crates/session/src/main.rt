@@ -1,6 +1,6 @@
 // The session: lines from standard input, and a reply to each on standard output, as soon as its line has come.
-// What is proved: what is said over the wire is what `written` (talk/specs/Session) says of what is heard, byte for byte and however the reads cut it, and the replies to the
-// lines that end in a read are said before the next (Conversed, talk/specs/Held). talk/src/wire.rt has the two ends of the wire, and says what is left to trust.
+// What is proved: what is said over the wire is what `written` (lines/specs/Session) says of what is heard, byte for byte and however the reads cut it, and the replies to the
+// lines that end in a read are said before the next (Conversed, talk/specs/Conversed). talk/src/wire.rt has the two ends of the wire, and says what is left to trust.
 // A write that fails ends the reading. The system ends a process that writes to a pipe without a reader (SIGPIPE), unless its parent has it ignore that signal.
 use talk::turn::run;
 

@@ -4,8 +4,7 @@ use native.Mathlib.Omega.{arith}
 use mathlib.Core.Path.{_≡_, sym, _∙_, ap, subst}
 use mathlib.Core.Logic.{inl, ⊎-elim}
 use mathlib.Core.List.{List, _++_, List·Memᴰ·append-cases, Memᴰ·append-left, Memᴰ·append-right}
-use lib.ListN.{length, length-append, List·getD-append}
-use lib.Seq.{getD-append-add, ext-getD}
+use lib.ListN.{length, length-append}
 use Rattle.plane.specs.declared.tile.Tile.{Tile}
 use Rattle.plane.specs.Picture.{tiles}
 use Rattle.plane.specs.Strips.{Holds, Strip, Strips}
@@ -15,27 +14,11 @@ use Rattle.brush.specs.Brush.{Given, goal}
 use Rattle.strips.specs.Cover.{AllUnder, Built, CoveredBy, CoversZone, Grown, Kept, LowTo, Untouched, Working, above-it, left-of, right-of}
 use Rattle.slots.specs.Slots.{Appended, Has}
 use Rattle.plane.proofs.Basics.{lt-or-ge}
-use Rattle.plane.proofs.Index.{length-upTo, mem-upTo, no-tile, nth, nth-upTo, ordered-upTo, upTo-mem}
+use Rattle.plane.proofs.Index.{length-upTo, mem-upTo, ordered-upTo, upTo-append, upTo-mem}
 use Rattle.plane.proofs.Lists.{ordered-append}
 use Rattle.plane.proofs.Tiling.{strip-one, strips-are-tiles, tiles-strips}
 use Rattle.strips.proofs.Grows.{grown-covered, grown-has}
 use Rattle.strips.proofs.Stays.{after-agrees, agree-back, apart-strip, high-number, holds-at, keep-apart, kept-low, low-number, own-corner, strip-at}
-
--- ---- tiles by number, of which the first m are one list and the rest another
-upTo-append : (m n : ℕ) (f g h : ℕ → Tile) → ((i : ℕ) → i < m → f i ≡ g i) → ((i : ℕ) → i < n → f (m + i) ≡ h i) → upTo (m + n) f ≡ upTo m g ++ upTo n h
-upTo-append m n f g h a b = ext-getD no-tile (upTo (m + n) f) (upTo m g ++ upTo n h) (length-upTo (m + n) f ∙ sym l) (λ i u. nth-upTo (m + n) f i (omega (arith, length-upTo (m + n) f)) ∙ go i (omega (arith, length-upTo (m + n) f)))
-  where
-    l : length (upTo m g ++ upTo n h) ≡ m + n
-    l = length-append (upTo m g) (upTo n h) ∙ omega (arith, length-upTo m g, length-upTo n h)
-
-    go : (i : ℕ) → i < m + n → f i ≡ nth (upTo m g ++ upTo n h) i
-    go i u = ⊎-elim
-        (λ (v : i < m). a i v ∙ sym (List·getD-append (upTo m g) (upTo n h) no-tile i (omega (arith, length-upTo m g)) ∙ nth-upTo m g i v))
-        (λ (v : m ≤ i).
-        let d : i ≡ m + (i - m) = omega arith in
-        let e : i ≡ length (upTo m g) + (i - m) = omega (arith, length-upTo m g) in
-        ap f d ∙ (b (i - m) (omega arith) ∙ sym (ap (nth (upTo m g ++ upTo n h)) e ∙ (getD-append-add (upTo m g) (upTo n h) (i - m) no-tile ∙ nth-upTo n h (i - m) (omega arith)))))
-        (lt-or-ge i m)
 
 -- the tiles of a table from j on
 abbrev tileFrom : List ℕ → ℕ → ℕ → Tile

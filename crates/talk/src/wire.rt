@@ -1,7 +1,7 @@
 // The two ends of the wire: bytes are heard from standard input and said on standard output. No other file calls libc or io.
 // Carried (specs/Wire) tells which bytes passed over a wire, and outside this file nothing proves it but the contracts of hear and say: a Wire's counts are private.
 // What is left to trust: that read puts the next bytes of the input at the start of buf and that write puts out what it is handed, which no contract of libc says; the first
-// lines of hear and say, which call them; and that each call is given the wire of the call before it. A Wire is plain data, so this is to be read: take_turn and run (main.rt), three calls.
+// lines of hear and say, which call them; and that each call is given the wire of the call before it. A Wire is plain data, so this is to be read: take_turn and run (turn.rt), three calls.
 ghost use Prim.Native.Nat.{_+_, _<_, _^_};
 ghost use mathlib.Core.Bool.{true};
 ghost use mathlib.Core.List.{[]};
