@@ -18,13 +18,13 @@ SCRIPTS = 100
 N = 1000000
 SEED = 1
 ROUNDS = 5
-JOBS = 4
+JOBS = 6
 SESSION = target/bin/session
 STRICT = -std=c99 -Wall -Wextra -Wpedantic -Werror
 CFLAGS = -O2 -g
 
 NAIVE = build/naive_plane.o build/naive_rules.o build/naive_layout.o
-SOURCES := $(shell find $(addprefix crates/,plane vet ask slots brush strips shared stitches paint rules macros edges waits piece sheet drawing remark sweep checker layout) -name '*.rt' -o -name '*.antt')
+SOURCES := $(shell find $(addprefix crates/,plane vet ask slots brush strips shared stitches tables paint rules macros edges waits piece sheet drawing remark sweep checker layout) -name '*.rt' -o -name '*.antt')
 
 SIDE_BY_SIDE = paste crates/session/stdin - | awk -F '\t' '{ printf "%-24s %s\n", $$1, $$2 }'
 
@@ -38,7 +38,7 @@ demo:
 	@rt check session > build/demo.log 2>&1 || { cat build/demo.log; exit 1; }
 	@bin/session < crates/session/stdin | $(SIDE_BY_SIDE)
 
-# A check writes the modules of the crates below its own to temporary files, up to 400 MB: to memory, where there is room for four checks.
+# A check writes the modules of the crates below its own to temporary files, up to 400 MB: to memory, where there is room.
 MEMORY := $(shell df --output=avail -BG /dev/shm 2>/dev/null | awk 'NR == 2 && $$1 + 0 >= 8 { print "TMPDIR=/dev/shm" }')
 
 # rt ci removes target/ and proves all, JOBS checks at a time: more than two keep two cores busy, since a level of crates waits for its longest.

@@ -29,8 +29,8 @@ use Rattle.sheet.specs.Ready.{Fit}
 use Rattle.sheet.specs.Report.{Findings, Reported, findings}
 use Rattle.checker.proofs.CheckStays.{run-fit}
 use Rattle.sheet.proofs.report.ReportAnswer as Tags
-use Rattle.commands.specs.declared.reply.Reply.{Reply}
-use Rattle.commands.specs.declared.reply.Reply.the-variants as reply
+use Rattle.replies.specs.declared.reply.Reply.{Reply}
+use Rattle.replies.specs.declared.reply.Reply.the-variants as reply
 use Rattle.desk.specs.declared.state.Desk.{Desk}
 use Rattle.desk.specs.Kept.{modelOf, Tables, Kept, Comes}
 use Rattle.desk.specs.Model.{checkedBy, leftBy, reportedOn, foundReply, halo}

@@ -1,11 +1,11 @@
 // The commands that ask: check, which does waiting pieces, and report.
 use checker::check::CheckAnswer;
 use checker::check::check;
-use commands::reply::Reply;
 use desk::state::Answered;
 use desk::state::Desk;
 use plane::tile::Area;
 use plane::words::wide;
+use replies::reply::Reply;
 use sheet::report::ReportAnswer;
 use sheet::report::report;
 ghost use mathlib.Core.Bool.{true};

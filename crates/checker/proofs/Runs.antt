@@ -7,7 +7,7 @@ use mathlib.Core.Logic.{_⊎_, inl, inr, ⊎-elim}
 use mathlib.Core.List.{List}
 use lib.ListN.{length}
 use Rattle.plane.specs.Words.{height, kinds, pictureOf, roomIn, width}
-use Rattle.paint.proofs.Whole.{table-size}
+use Rattle.tables.proofs.Whole.{table-size}
 use Rattle.rules.specs.declared.rule.Rule.{Rule}
 use Rattle.rules.specs.Words.{haloOf, rulesOf}
 use Rattle.waits.specs.declared.waits.Block.{Block}

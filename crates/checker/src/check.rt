@@ -1,9 +1,9 @@
 // Check: the lowest waiting piece, as often as told or until none waits.
-use paint::table::clear;
 use sheet::shape::Tested;
 use sheet::shape::ready;
 use sweep::sweep::Ran;
 use sweep::sweep::one_turn;
+use tables::table::clear;
 use waits::waits::Block;
 use waits::waits::lowest_waiting;
 use waits::waits::waiting_pieces;

@@ -1,4 +1,4 @@
--- Laws of the session's language, each module after its subject.
+-- The laws of the session's commands, each file named after its subject.
 pub mod Keywords
 pub mod Reading
 pub mod Whole

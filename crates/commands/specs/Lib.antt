@@ -1,5 +1,4 @@
--- What the contracts of the session's language cite: commands, the numbers of a line, and replies.
+-- What the contracts of the session's commands cite: commands, and the numbers of a line.
 pub mod Command
 pub mod Numbers
-pub mod Reply
 pub mod Worked

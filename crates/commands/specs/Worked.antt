@@ -1,14 +1,11 @@
--- Lines of the session and their commands, and replies and their lines, by computing.
+-- Lines of the session and their commands, by computing.
 use mathlib.Core.Path.{_≡_, refl}
 use mathlib.Core.List.{List, [], _∷_}
 use Prim.Native.Nat.{ℕ}
 use lib.ListN.{length}
 use lib.Seq.{drop-length}
 use Rattle.commands.specs.Command.{keywordIn, allNumbers, values, commandOf}
-use Rattle.commands.specs.Reply.{replyBytes}
 use Rattle.commands.specs.declared.command.Command.the-variants.{New, Rule, Spacing, Check, Nothing}
-use Rattle.commands.specs.declared.reply.Reply.the-variants as R
-use Rattle.text.specs.Decimal.{decimalIn}
 use Rattle.text.specs.Number.{digits, valueFrom}
 use Rattle.text.specs.Part.{blanks, leading, onto, parts, onFront, unblanked}
 use Rattle.text.specs.Word.{sameb}
@@ -72,18 +69,3 @@ many = refl
 pub blank-line : (l : List ℕ) → blanks l ≡ length l → commandOf l ≡ Nothing
 unfolding keywordIn allNumbers values parts unblanked sameb
 blank-line l e = rw (e, drop-length l)
-
--- a refusal: `no 6 13`
-pub refused : replyBytes (R.No 6 13) ≡ 110 ∷ 111 ∷ 32 ∷ 54 ∷ 32 ∷ 49 ∷ 51 ∷ 10 ∷ []
-unfolding decimalIn
-refused = refl
-
--- a check: `check 0 1 0`
-pub checked : replyBytes (R.Check 0 1 0) ≡ 99 ∷ 104 ∷ 101 ∷ 99 ∷ 107 ∷ 32 ∷ 48 ∷ 32 ∷ 49 ∷ 32 ∷ 48 ∷ 10 ∷ []
-unfolding decimalIn
-checked = refl
-
--- a report: `report 1 5 1`
-pub reported : replyBytes (R.Report 1 5 1) ≡ 114 ∷ 101 ∷ 112 ∷ 111 ∷ 114 ∷ 116 ∷ 32 ∷ 49 ∷ 32 ∷ 53 ∷ 32 ∷ 49 ∷ 10 ∷ []
-unfolding decimalIn
-reported = refl

@@ -1,5 +1,4 @@
-// The session's language: a line's bytes to a command, and a reply to its line's bytes.
+// The session's commands: a line's bytes to a command.
 pub mod command;
 pub mod keyword;
 pub mod numbers;
-pub mod reply;

@@ -9,8 +9,8 @@ use Rattle.sheet.specs.Layout.{Layout}
 use Rattle.commands.proofs.command.Command as Tags
 use Rattle.commands.specs.declared.command.Command.{Command}
 use Rattle.commands.specs.declared.command.Command.the-variants.{New, Rule, Width, Spacing, Paint, Check, Report, Nothing}
-use Rattle.commands.specs.declared.reply.Reply.{Reply}
-use Rattle.commands.specs.declared.reply.Reply.the-variants as reply
+use Rattle.replies.specs.declared.reply.Reply.{Reply}
+use Rattle.replies.specs.declared.reply.Reply.the-variants as reply
 use Rattle.desk.specs.declared.state.Desk.{Desk}
 use Rattle.desk.specs.declared.state.Answered.{Answered}
 use Rattle.desk.specs.Kept.{modelOf, Kept, Comes, saidNo, AddsRules}

@@ -13,7 +13,7 @@ use Rattle.plane.specs.Refusal.{Lowest}
 use Rattle.plane.specs.Picture.{tiles}
 use Rattle.plane.specs.Words.{width, height, roomIn, InRange}
 use Rattle.plane.proofs.Basics.{tf, and-left, and-right, and-both}
-use Rattle.paint.specs.Paint.{HasRoom, paintedOf}
+use Rattle.tables.specs.Like.{HasRoom, paintedOf}
 use Rattle.sheet.specs.Layout.{Layout}
 use Rattle.drawing.specs.Paint.{BothFit}
 use Rattle.desk.specs.Tests.{firstNo, inRange, areaIn, hasRoom, bothFit}

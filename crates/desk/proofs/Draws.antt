@@ -17,8 +17,8 @@ use Rattle.plane.specs.Area.{AreaIn}
 use Rattle.plane.specs.Picture.{joined}
 use Rattle.plane.specs.Words.{width, height, kinds, roomIn, InRange, TableLength}
 use Rattle.plane.proofs.Lowests.{left-as-is, refusal-positive}
-use Rattle.paint.specs.Paint.{paintedOf}
-use Rattle.paint.proofs.Whole.{table-size}
+use Rattle.tables.specs.Like.{paintedOf}
+use Rattle.tables.proofs.Whole.{table-size}
 use Rattle.rules.specs.Vetting.{ListLength, AllSound}
 use Rattle.rules.specs.Words.{rulesOf}
 use Rattle.drawing.specs.Create.{Created, fresh}
@@ -26,8 +26,8 @@ use Rattle.sheet.specs.Layout.{Layout, room, OneLength, WorkLength, IsLayout}
 use Rattle.drawing.specs.Paint.{BothFit, Painted, paintedLayout}
 use Rattle.sheet.specs.Ready.{Fit}
 use Rattle.drawing.proofs.Stays.{create-makes, paint-keeps}
-use Rattle.commands.specs.declared.reply.Reply.{Reply}
-use Rattle.commands.specs.declared.reply.Reply.the-variants as reply
+use Rattle.replies.specs.declared.reply.Reply.{Reply}
+use Rattle.replies.specs.declared.reply.Reply.the-variants as reply
 use Rattle.desk.specs.declared.state.Desk.{Desk}
 use Rattle.desk.specs.declared.state.Answered.{Answered}
 use Rattle.desk.specs.Kept.{modelOf, Tables, Kept, Comes, tookAnswer}

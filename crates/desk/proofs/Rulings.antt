@@ -21,7 +21,7 @@ use Rattle.rules.specs.Some.{Every}
 use Rattle.rules.specs.Vetting.{ListLength, KindsIn}
 use Rattle.rules.specs.Words.{rulesOf, ruleWords}
 use Rattle.sheet.specs.Layout.{Layout}
-use Rattle.commands.specs.declared.reply.Reply.the-variants as reply
+use Rattle.replies.specs.declared.reply.Reply.the-variants as reply
 use Rattle.desk.specs.declared.state.Desk.{Desk}
 use Rattle.desk.specs.Kept.{modelOf, Kept, Comes, saidOk, saidNo, tookMacro}
 use Rattle.desk.specs.Model.{said, added}

@@ -17,8 +17,8 @@ use Rattle.drawing.specs.Paint.{paintedLayout}
 use Rattle.sheet.specs.Report.{Findings, findings}
 use Rattle.commands.specs.declared.command.Command.{Command}
 use Rattle.commands.specs.declared.command.Command.the-variants.{New, Rule, Width, Spacing, Paint, Check, Report, Nothing}
-use Rattle.commands.specs.declared.reply.Reply.{Reply}
-use Rattle.commands.specs.declared.reply.Reply.the-variants as reply
+use Rattle.replies.specs.declared.reply.Reply.{Reply}
+use Rattle.replies.specs.declared.reply.Reply.the-variants as reply
 use Rattle.desk.specs.Tests.{firstNo, inRange, areaIn, bothFit}
 
 -- the room of each table, in tiles, and of the list, in rules

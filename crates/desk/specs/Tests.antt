@@ -7,7 +7,7 @@ use lib.Dec.{leb, ltb}
 use Rattle.plane.specs.declared.tile.Area.{Area}
 use Rattle.plane.specs.Picture.{tiles}
 use Rattle.plane.specs.Words.{width, height, roomIn}
-use Rattle.paint.specs.Paint.{paintedOf}
+use Rattle.tables.specs.Like.{paintedOf}
 use Rattle.sheet.specs.Layout.{Layout}
 
 -- the number of the first test that fails, 0 if all pass; a command lists them in rising number

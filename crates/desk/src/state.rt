@@ -1,7 +1,7 @@
 // What the desk knows beside its slices, and what a command comes to.
-use commands::reply::Reply;
 use plane::answer::Answer;
 use plane::answer::refusal_number;
+use replies::reply::Reply;
 ghost use mathlib.Core.Path.{_≡_};
 ghost use Rattle.desk.specs.Kept.{saidOk, saidNo, tookAnswer};
 

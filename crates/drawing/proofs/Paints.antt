@@ -15,10 +15,9 @@ use Rattle.plane.specs.Picture.{Picture}
 use Rattle.plane.specs.Refusal.{_unless_}
 use Rattle.plane.specs.Words.{width, height, kinds, roomIn}
 use Rattle.plane.proofs.Lowests.{AllHold, told-done, refused-first, passed-first}
-use Rattle.paint.specs.Paint.{HasRoom, paintedOf}
-use Rattle.paint.specs.Tables.{Paintable, PaintedOver, TilesAfter}
-use Rattle.paint.proofs.Calls.{table-at}
-use Rattle.paint.proofs.Whole.{again-fits, made, paintable-room, tiles-of}
+use Rattle.tables.specs.Like.{HasRoom, paintedOf}
+use Rattle.tables.specs.Tables.{Paintable, PaintedOver, TilesAfter}
+use Rattle.tables.proofs.Whole.{table-at, again-fits, made, paintable-room, tiles-of}
 use Rattle.sheet.specs.Layout.{Layout, room, OneLength, IsLayout}
 use Rattle.drawing.specs.Paint.{BothFit, Painted}
 use Rattle.drawing.specs.PaintSteps.{paintTests, PaintTested, BothPainted, NonePainted, PaintedTables}

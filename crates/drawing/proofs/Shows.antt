@@ -8,9 +8,9 @@ use Rattle.plane.specs.declared.tile.Area.{Area}
 use Rattle.plane.specs.Picture.{table, space, tiles, painted}
 use Rattle.plane.specs.Words.{width, height, kinds, pictureOf, roomIn, InRange, PictureTable}
 use Rattle.plane.proofs.Lowests.{all-hold}
-use Rattle.paint.specs.Paint.{HasRoom, paintedOf, tableLike}
-use Rattle.paint.proofs.OneTile.{space-one}
-use Rattle.paint.proofs.Whole.{made-shows, painted-types, table-size}
+use Rattle.tables.specs.Like.{HasRoom, paintedOf, tableLike}
+use Rattle.tables.proofs.OneTile.{space-one}
+use Rattle.tables.proofs.Whole.{made-shows, painted-types, table-size}
 use Rattle.sheet.specs.Layout.{Layout, room}
 use Rattle.drawing.specs.Create.{createRefusals, Created}
 use Rattle.drawing.specs.Paint.{paintRefusals, Painted}

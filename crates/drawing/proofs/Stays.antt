@@ -8,10 +8,9 @@ use Rattle.plane.specs.declared.tile.Area.{Area}
 use Rattle.plane.specs.Picture.{table, space, tiles}
 use Rattle.plane.specs.Words.{width, height, kinds, roomIn, TableLength, InRange}
 use Rattle.plane.proofs.Lowests.{all-hold}
-use Rattle.paint.specs.Paint.{paintedOf}
-use Rattle.paint.proofs.Again.{painted-table, as-picture}
-use Rattle.paint.proofs.OneTile.{space-one, space-is-table}
-use Rattle.paint.proofs.Whole.{table-size, table-words}
+use Rattle.tables.specs.Like.{paintedOf}
+use Rattle.tables.proofs.Whole.{painted-table, as-picture, table-size, table-words}
+use Rattle.tables.proofs.OneTile.{space-one, space-is-table}
 use Rattle.sheet.specs.Layout.{Layout, room, Marks, SoundLayout}
 use Rattle.drawing.specs.Create.{fresh, createRefusals, Created}
 use Rattle.drawing.specs.Paint.{BothFit, paintedLayout, paintRefusals, Painted}

@@ -7,7 +7,7 @@ use Rattle.plane.specs.declared.tile.Area.{Area}
 use Rattle.plane.specs.Area.{AreaIn}
 use Rattle.plane.specs.Refusal.{_unless_, Outcome}
 use Rattle.plane.specs.Words.{width, height, kinds}
-use Rattle.paint.specs.Paint.{tableLike, HasRoom, paintedOf}
+use Rattle.tables.specs.Like.{tableLike, HasRoom, paintedOf}
 use Rattle.sheet.specs.Layout.{Layout, WorkLength, IsLayout}
 
 -- material and waiting, both painted, have no more tiles than room

@@ -6,7 +6,7 @@ use mathlib.Core.List.{List}
 use lib.ListN.{take}
 use Rattle.plane.specs.declared.tile.Area.{Area}
 use Rattle.plane.specs.Refusal.{Lowest, Outcome}
-use Rattle.paint.specs.Paint.{tableLike, HasRoom, paintedOf}
+use Rattle.tables.specs.Like.{tableLike, HasRoom, paintedOf}
 use Rattle.sheet.specs.Layout.{Layout}
 use Rattle.drawing.specs.Paint.{paintRefusals, paintedLayout}
 

@@ -1,10 +1,10 @@
 // A new layout.
-use paint::table::space_table;
 use plane::answer::Answer;
 use plane::answer::Refusal;
 use plane::words::in_range;
 use plane::words::room_in;
 use sheet::shape::one_length;
+use tables::table::space_table;
 ghost use Rattle.plane.specs.Answers.{number};
 ghost use Rattle.sheet.specs.Layout.{lent};
 ghost use Rattle.drawing.specs.Create.{Created};

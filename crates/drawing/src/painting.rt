@@ -1,7 +1,4 @@
 // Paint: an area of the material set to a type, and the area waiting, or neither.
-use paint::table::clear_from;
-use paint::table::paint_table;
-use paint::table::tiles_after;
 use plane::answer::Answer;
 use plane::answer::Refusal;
 use plane::area::area_in;
@@ -9,12 +6,15 @@ use plane::tile::Area;
 use plane::words::room_in;
 use sheet::shape::is_layout;
 use sheet::shape::one_length;
+use tables::table::clear_from;
+use tables::table::paint_table;
+use tables::table::tiles_after;
 ghost use mathlib.Core.Path.{_≡_};
 ghost use Prim.Native.Nat.{_<_};
 ghost use lib.ListN.{length};
 ghost use Rattle.plane.specs.Answers.{number};
 ghost use Rattle.plane.specs.Words.{kinds};
-ghost use Rattle.paint.specs.Tables.{Paintable};
+ghost use Rattle.tables.specs.Tables.{Paintable};
 ghost use Rattle.sheet.specs.Layout.{lent};
 ghost use Rattle.drawing.specs.Paint.{Painted};
 ghost use Rattle.drawing.specs.PaintSteps.{PaintTested, PaintedBoth, PaintedTables};

@@ -14,7 +14,7 @@ use Rattle.plane.specs.Words.{height, kinds, pictureOf, roomIn, width}
 use Rattle.plane.proofs.Basics.{and-both}
 use Rattle.plane.proofs.FromTable.{tiles-agree}
 use Rattle.plane.proofs.Tiling.{tiles-few}
-use Rattle.paint.specs.Paint.{tableLike}
+use Rattle.tables.specs.Like.{tableLike}
 use Rattle.rules.specs.Words.{haloOf, rulesOf}
 use Rattle.waits.specs.declared.waits.Block.{Block}
 use Rattle.waits.specs.declared.waits.Block.the-variants.{At, Nothing}

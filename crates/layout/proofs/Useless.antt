@@ -11,7 +11,7 @@ use Rattle.plane.specs.Area.{AreaIn, squaresIn, tilesIn}
 use Rattle.plane.specs.Picture.{area}
 use Rattle.plane.specs.Refusal.{Lowest, ifDone, lowest-once}
 use Rattle.plane.specs.Words.{count, kinds, pictureOf, InRange}
-use Rattle.paint.specs.Paint.{tableLike}
+use Rattle.tables.specs.Like.{tableLike}
 use Rattle.rules.specs.Forbid.{forbidden}
 use Rattle.rules.specs.Vetting.{AllSound, ListLength}
 use Rattle.rules.specs.Words.{wordsOf, rulesOf, haloOf, soundAt}

@@ -10,7 +10,7 @@ use Rattle.plane.specs.Picture.{Picture, inArea}
 use Rattle.plane.specs.Refusal.{ifDone}
 use Rattle.plane.specs.Strips.{Holds}
 use Rattle.plane.specs.Words.{width, height, pictureOf, tileOf}
-use Rattle.paint.specs.Paint.{tableLike}
+use Rattle.tables.specs.Like.{tableLike}
 use Rattle.rules.specs.Vetting.{ListLength, AllSound}
 use Rattle.rules.specs.Words.{rulesOf}
 use Rattle.waits.specs.Pieces.{touched}

@@ -9,7 +9,7 @@ use lib.ListN.{length}
 use Rattle.plane.specs.declared.tile.Area.{Area}
 use Rattle.plane.specs.Picture.{Picture, joined, extent, area, painted, tiles, table, sumTo}
 use Rattle.plane.specs.Words.{pictureOf, upTo, kindIn}
-use Rattle.paint.specs.Paint.{paintedOf}
+use Rattle.tables.specs.Like.{paintedOf}
 use Rattle.rules.specs.declared.rule.Rule.{Rule}
 use Rattle.rules.specs.Forbid.{errors}
 use Rattle.macros.specs.Macros.{width, spacing}

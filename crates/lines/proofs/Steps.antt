@@ -13,10 +13,10 @@ use Rattle.text.specs.declared.line.Line.{Line}
 use Rattle.text.specs.Line.{Reads, Sound}
 use Rattle.text.specs.Put.{Put}
 use Rattle.commands.specs.Command.{commandOf}
-use Rattle.commands.specs.Reply.{replyBytes}
+use Rattle.replies.specs.Reply.{replyBytes}
 use Rattle.commands.specs.declared.command.Command.{Command}
 use Rattle.commands.specs.declared.command.Command.the-variants.{Nothing}
-use Rattle.commands.specs.declared.reply.Reply.{Reply}
+use Rattle.replies.specs.declared.reply.Reply.{Reply}
 use Rattle.desk.specs.declared.state.Answered.{Answered}
 use Rattle.desk.specs.declared.state.Desk.{Desk}
 use Rattle.desk.specs.Kept.{modelOf, Tables, Kept, Comes}

@@ -7,10 +7,10 @@ use lib.ListN.{replicate}
 use Rattle.sheet.specs.Layout.{lent}
 use Rattle.text.specs.Line.{tooLong}
 use Rattle.commands.specs.Command.{commandOf}
-use Rattle.commands.specs.Reply.{replyBytes}
+use Rattle.replies.specs.Reply.{replyBytes}
 use Rattle.commands.specs.declared.command.Command.{Command}
 use Rattle.commands.specs.declared.command.Command.the-variants.{Nothing}
-use Rattle.commands.specs.declared.reply.Reply.{Reply}
+use Rattle.replies.specs.declared.reply.Reply.{Reply}
 use Rattle.desk.specs.Model as desk
 
 -- the bytes of the line so far, the desk, and how many lines have ended

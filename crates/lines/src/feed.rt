@@ -2,7 +2,7 @@
 use crate::state::State;
 use crate::state::end_line;
 use crate::state::pushed;
-use commands::reply::put_reply;
+use replies::reply::put_reply;
 use text::line::Line;
 ghost use mathlib.Core.List.{List};
 ghost use mathlib.Core.Path.{_≡_};

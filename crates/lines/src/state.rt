@@ -2,8 +2,8 @@
 use answers::answer::answer;
 use commands::command::Command;
 use commands::command::command_of;
-use commands::reply::Reply;
 use desk::state::Desk;
+use replies::reply::Reply;
 use text::line::Line;
 use text::line::fresh;
 use text::line::push;

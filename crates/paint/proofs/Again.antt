@@ -1,5 +1,5 @@
 -- What the calls leave is a table again: where they answer 0, and where they refuse a table.
-use Prim.Native.Nat.{ℕ, _≤_, _<_}
+use Prim.Native.Nat.{ℕ}
 use native.Mathlib.Omega.{arith}
 use mathlib.Core.Path.{_≡_, refl, sym, _∙_, subst}
 use mathlib.Core.List.{List}
@@ -10,27 +10,13 @@ use Rattle.plane.specs.declared.answer.Refusal.{Refusal}
 use Rattle.plane.specs.declared.answer.Refusal.the-variants.{Full, Kind, Lengths, NoRule, NoTable, Place, Sizes}
 use Rattle.plane.specs.declared.tile.Area.{Area}
 use Rattle.plane.specs.Answers.{number, refusalNumber}
-use Rattle.plane.specs.Picture.{painted, stamped, table, tiles}
 use Rattle.plane.specs.Refusal.{ifDone}
-use Rattle.plane.specs.Words.{IsTable, PictureTable, height, kinds, pictureOf, roomIn, width}
-use Rattle.paint.specs.Paint.{Blanked, PlanePainted, PlaneStamped, blankRefusals, paintRefusals, paintedOf, stampRefusals, stampedOf, tableLike}
+use Rattle.plane.specs.Words.{IsTable, PictureTable, roomIn}
+use Rattle.paint.specs.Paint.{Blanked, PlanePainted, PlaneStamped, blankRefusals, paintRefusals, stampRefusals}
+use Rattle.tables.specs.Like.{paintedOf, stampedOf, tableLike}
 use Rattle.plane.proofs.Lowests.{all-hold}
-use Rattle.paint.proofs.Calls.{table-at}
-use Rattle.paint.proofs.OneTile.{space-is-table}
-use Rattle.paint.proofs.Whole.{like-table, painted-types, stamped-types, table-length}
-
--- ---- the table of a picture after, if it has room
-pub painted-table : {c : ℕ} {ws : List ℕ} (a : Area) (k : ℕ) → IsTable c ws → k < kinds ws → length (tiles (width ws) (height ws) (painted (pictureOf ws) a k)) ≤ c
-    → IsTable c (table c (width ws) (height ws) (kinds ws) (painted (pictureOf ws) a k))
-painted-table {ws = ws} a k I u r = like-table (painted (pictureOf ws) a k) _ I refl r (painted-types a k I u)
-
-pub stamped-table : {c : ℕ} {ws : List ℕ} (a : Area) (rows : List ℕ) → IsTable c ws → length (tiles (width ws) (height ws) (stamped (pictureOf ws) a rows)) ≤ c
-    → IsTable c (table c (width ws) (height ws) (kinds ws) (stamped (pictureOf ws) a rows))
-stamped-table {ws = ws} a rows I r = like-table (stamped (pictureOf ws) a rows) _ I refl r (stamped-types a rows I)
-
--- a table of some room is a picture's table, for the room that its words have
-pub as-picture : {c : ℕ} {ws : List ℕ} → IsTable c ws → PictureTable ws
-as-picture {c} {ws} T = let e : c ≡ roomIn (length ws) = omega (arith, table-length T) in table-at e T
+use Rattle.tables.proofs.OneTile.{space-is-table}
+use Rattle.tables.proofs.Whole.{as-picture, painted-table, stamped-table}
 
 -- ---- the calls, where they answer 0
 pub blank-table : {ws vs : List ℕ} {w h k : ℕ} → Blanked ws w h k 0 vs → PictureTable vs

@@ -1,7 +1,7 @@
 -- The ways through blank, paint and stamp: which number each test's answer makes the lowest, and what is left.
 use Prim.Native.Nat.{ℕ, _≤_, _<_}
 use native.Mathlib.Omega.{arith}
-use mathlib.Core.Path.{_≡_, refl, sym, _∙_, ap, subst}
+use mathlib.Core.Path.{_≡_, refl, sym, _∙_, ap}
 use mathlib.Core.Logic.{inl, inr}
 use mathlib.Core.List.{List, [], _∷_, _++_}
 use lib.ListN.{length, replicate}
@@ -14,14 +14,12 @@ use Rattle.plane.specs.Area.{AreaIn}
 use Rattle.plane.specs.Picture.{Picture, space, table}
 use Rattle.plane.specs.Refusal.{Lowest, Outcome, _unless_}
 use Rattle.plane.specs.Words.{InRange, IsTable, PictureTable, TableLength, height, kinds, roomIn, width}
-use Rattle.paint.specs.Paint.{Blanked, HasRoom, PaintLengths, PlanePainted, PlaneStamped, StampIn, paintedOf, stampedOf, tableLike}
+use Rattle.paint.specs.Paint.{Blanked, PaintLengths, PlanePainted, PlaneStamped, StampIn}
+use Rattle.tables.specs.Like.{HasRoom, paintedOf, stampedOf, tableLike}
 use Rattle.paint.specs.Steps.{PaintTested, Readied, StampTested, paintTests, readyTests, stampTests}
-use Rattle.paint.specs.Tables.{Paintable, PaintedOver}
+use Rattle.tables.specs.Tables.{Paintable, PaintedOver}
+use Rattle.tables.proofs.Whole.{table-at}
 use Rattle.plane.proofs.Lowests.{AllHold, refused-first, told-done}
-
--- a table of a room is one of the same room, written otherwise
-pub table-at : {c d : ℕ} {ws : List ℕ} → c ≡ d → IsTable c ws → IsTable d ws
-table-at {ws = ws} e T = subst (λ (n : ℕ). IsTable n ws) e T
 
 -- ---- blank
 pub blank-length : {ws : List ℕ} {w h k : ℕ} → (TableLength (length ws) → ⊥) → Blanked ws w h k 1 ws

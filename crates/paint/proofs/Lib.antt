@@ -1,8 +1,4 @@
--- The laws of painting, each file named after its subject.
-pub mod Fills
-pub mod Finish
-pub mod Whole
-pub mod OneTile
+-- The laws of the calls, each file named after its subject.
 pub mod Calls
 pub mod Once
 pub mod Again

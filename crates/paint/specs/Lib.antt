@@ -1,4 +1,3 @@
--- What the contracts of painting cite: whole tables, and what each call promises.
-pub mod Tables
+-- What the contracts of the calls cite.
 pub mod Paint
 pub mod Steps

@@ -1,22 +1,15 @@
 -- What blank, paint and stamp promise: their numbers, and the table and the working room that they leave.
-use Prim.Native.Nat.{ℕ, _≤_, _<_}
+use Prim.Native.Nat.{ℕ, _<_}
 use mathlib.Core.Path.{_≡_}
 use mathlib.Core.List.{List, [], _∷_}
 use lib.ListN.{length, replicate}
 use Rattle.plane.specs.declared.tile.Area.{Area}
-use Rattle.plane.specs.Picture.{Picture, tiles, table, space, painted, stamped}
-use Rattle.plane.specs.Words.{width, height, kinds, pictureOf, roomIn, InRange, TableLength, PictureTable}
+use Rattle.plane.specs.Picture.{table, space}
+use Rattle.plane.specs.Words.{width, height, kinds, roomIn, InRange, TableLength, PictureTable}
 use Rattle.plane.specs.Area.{AreaIn}
 use Rattle.plane.specs.Refusal.{_unless_, Outcome}
 use Rattle.brush.specs.Brush.{Small}
-
--- the table of another picture, with the room, size and types of ws
-abbrev pub tableLike : List ℕ → Picture → List ℕ
-tableLike ws q = table (roomIn (length ws)) (width ws) (height ws) (kinds ws) q
-
--- the picture has no more tiles than ws has room
-abbrev pub HasRoom : List ℕ → Picture → Type 0
-HasRoom ws q = length (tiles (width ws) (height ws) q) ≤ roomIn (length ws)
+use Rattle.tables.specs.Like.{tableLike, HasRoom, paintedOf, stampedOf}
 
 -- a table's length, and a working room as long
 pub record PaintLengths (ws work : List ℕ) : Type 0 where
@@ -43,10 +36,6 @@ pub record Blanked (ws : List ℕ) (w h k answer : ℕ) (after : List ℕ) : Typ
 
 -- ---- paint
 
--- the picture of ws with an area set to a type
-abbrev pub paintedOf : List ℕ → Area → ℕ → Picture
-paintedOf ws a k = painted (pictureOf ws) a k
-
 -- when paint says no
 abbrev pub paintRefusals : List ℕ → Area → ℕ → List ℕ → List (ℕ × Type 0)
 paintRefusals ws a k work =
@@ -63,10 +52,6 @@ pub record PlanePainted (ws : List ℕ) (a : Area) (k : ℕ) (work : List ℕ) (
   pub zero : work-after ≡ replicate (length work) 0
 
 -- ---- stamp
-
--- the picture of ws with an area set to bits
-abbrev pub stampedOf : List ℕ → Area → List ℕ → Picture
-stampedOf ws a rows = stamped (pictureOf ws) a rows
 
 -- when stamp says no
 abbrev pub stampRefusals : List ℕ → Area → List ℕ → List ℕ → List (ℕ × Type 0)

@@ -1,3 +1,2 @@
-// One plane painted: whole tables, and the calls.
+// One plane painted: the calls.
 pub mod paint;
-pub mod table;

@@ -1,9 +1,5 @@
 // The calls: a table of space, and a table with an area set to a type or to bits. Each tests all that it is lent, and says no by the lowest
 // number that applies; the working room is zero afterwards, whatever the answer.
-use crate::table::clear;
-use crate::table::paint_table;
-use crate::table::space_table;
-use crate::table::stamp_table;
 use plane::answer::Answer;
 use plane::answer::Refusal;
 use plane::area::area_in;
@@ -11,6 +7,10 @@ use plane::tile::Area;
 use plane::words::in_range;
 use plane::words::room_in;
 use plane::words::table_length;
+use tables::table::clear;
+use tables::table::paint_table;
+use tables::table::space_table;
+use tables::table::stamp_table;
 use vet::vet::is_table;
 ghost use Rattle.plane.specs.Answers.{number};
 ghost use Rattle.plane.specs.Words.{Says};

@@ -18,9 +18,9 @@ use Rattle.plane.proofs.Basics.{lt-or-ge}
 use Rattle.plane.proofs.FromTable.{table-plane, tiles-agree}
 use Rattle.plane.proofs.Tables.{written-count}
 use Rattle.brush.specs.Brush.{Small}
-use Rattle.paint.specs.Paint.{tableLike}
-use Rattle.paint.specs.Tables.{Paintable, PaintedOver}
-use Rattle.paint.proofs.Calls.{table-at}
+use Rattle.tables.specs.Like.{tableLike}
+use Rattle.tables.specs.Tables.{Paintable, PaintedOver}
+use Rattle.tables.proofs.Whole.{table-at, made, paintable-room}
 use Rattle.rules.specs.Words.{haloOf, rulesOf}
 use Rattle.rules.proofs.Vetted.{all-apart}
 use Rattle.rules.proofs.Window.{area-of}
@@ -32,7 +32,6 @@ use Rattle.piece.proofs.Calms.{calm-free}
 use Rattle.piece.proofs.Remarks.{block-in, halo-in, near-in, near-same, near-small, rules-near, stamped-piece}
 use Rattle.piece.proofs.ShownRows.{shown-stamped}
 use Rattle.remark.specs.Marking.{MarkIn, Remade, errorsNear}
-use Rattle.paint.proofs.Whole.{made, paintable-room}
 use Rattle.sheet.proofs.Shapes.{marks-area}
 
 -- ---- the marks of a calm piece

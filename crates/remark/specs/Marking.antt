@@ -7,7 +7,7 @@ use lib.Dec.{leb}
 use lib.ListN.{length}
 use Rattle.plane.specs.Picture.{Picture, tiles}
 use Rattle.plane.specs.Words.{width, height, kinds, pictureOf, roomIn, TableLength, PictureTable}
-use Rattle.paint.specs.Paint.{tableLike}
+use Rattle.tables.specs.Like.{tableLike}
 use Rattle.rules.specs.Vetting.{ListLength, AllSound}
 use Rattle.rules.specs.Words.{rulesOf, haloOf}
 use Rattle.piece.specs.Remark.{remarked}

@@ -1,6 +1,4 @@
 // The errors of one piece, marked anew, and the end of its waiting.
-use paint::table::paint_table;
-use paint::table::stamp_table;
 use piece::calm::calm;
 use piece::rows::near_area;
 use piece::rows::piece_rows;
@@ -8,12 +6,14 @@ use piece::shown::shows_rows;
 use plane::tile::Area;
 use plane::words::room_in;
 use rules::list::halo_of;
+use tables::table::paint_table;
+use tables::table::stamp_table;
 ghost use mathlib.Core.Path.{_≡_};
 ghost use lib.ListN.{length};
 ghost use Rattle.plane.specs.Picture.{painted, stamped};
 ghost use Rattle.plane.specs.Words.{width, height, kinds, pictureOf};
 ghost use Rattle.brush.specs.Brush.{Small};
-ghost use Rattle.paint.specs.Tables.{Paintable};
+ghost use Rattle.tables.specs.Tables.{Paintable};
 ghost use Rattle.rules.specs.Words.{rulesOf};
 ghost use Rattle.piece.specs.Remark.{Checkable};
 ghost use Rattle.piece.specs.Rows.{PieceRows};

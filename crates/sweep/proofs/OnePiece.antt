@@ -13,11 +13,9 @@ use Rattle.plane.specs.Area.{AreaIn}
 use Rattle.plane.specs.Picture.{Picture, painted, tiles}
 use Rattle.plane.specs.Words.{height, kinds, pictureOf, roomIn, width}
 use Rattle.plane.proofs.Basics.{and-left, and-right, bool-cases, tf}
-use Rattle.paint.specs.Paint.{tableLike}
-use Rattle.paint.specs.Tables.{Paintable, TilesAfter}
-use Rattle.paint.proofs.Again.{as-picture}
-use Rattle.paint.proofs.Calls.{table-at}
-use Rattle.paint.proofs.Whole.{like-table, painted-types, table-size, table-words, made-shows}
+use Rattle.tables.specs.Like.{tableLike}
+use Rattle.tables.specs.Tables.{Paintable, TilesAfter}
+use Rattle.tables.proofs.Whole.{as-picture, table-at, like-table, painted-types, table-size, table-words, made-shows}
 use Rattle.rules.specs.declared.rule.Rule.{Rule}
 use Rattle.rules.specs.Forbid.{forbidden}
 use Rattle.rules.specs.Words.{haloOf, rulesOf}

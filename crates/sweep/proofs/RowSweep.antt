@@ -14,9 +14,9 @@ use Rattle.plane.specs.Picture.{Picture, area, inArea, painted, table, tiles}
 use Rattle.plane.specs.Words.{count, height, kinds, pictureOf, roomIn, width}
 use Rattle.plane.proofs.Basics.{lt-or-ge, tf}
 use Rattle.plane.proofs.FromTable.{tiles-agree}
-use Rattle.paint.specs.Paint.{tableLike}
-use Rattle.paint.specs.Tables.{Paintable}
-use Rattle.paint.proofs.Whole.{painted-types, table-length, table-size, table-words, made-shows}
+use Rattle.tables.specs.Like.{tableLike}
+use Rattle.tables.specs.Tables.{Paintable}
+use Rattle.tables.proofs.Whole.{painted-types, table-length, table-size, table-words, made-shows}
 use Rattle.waits.specs.declared.waits.Block.the-variants.{At}
 use Rattle.waits.specs.Pieces.{Lowest, blocks, lowestBlock, pieceWaits}
 use Rattle.piece.specs.Remark.{BlockIn, nearArea}

@@ -6,7 +6,7 @@ use lib.ListN.{length}
 use lib.Dec.{leb}
 use Rattle.plane.specs.Picture.{Picture, tiles, painted}
 use Rattle.plane.specs.Words.{width, height, pictureOf}
-use Rattle.paint.specs.Paint.{tableLike}
+use Rattle.tables.specs.Like.{tableLike}
 use Rattle.rules.specs.declared.rule.Rule.{Rule}
 use Rattle.waits.specs.declared.waits.Block.{Block}
 use Rattle.waits.specs.declared.waits.Block.the-variants.{At, Nothing}

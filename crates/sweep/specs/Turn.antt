@@ -6,7 +6,7 @@ use mathlib.Core.List.{List}
 use lib.ListN.{length}
 use Rattle.plane.specs.Picture.{Picture}
 use Rattle.plane.specs.Words.{width, height, pictureOf}
-use Rattle.paint.specs.Paint.{tableLike}
+use Rattle.tables.specs.Like.{tableLike}
 use Rattle.rules.specs.Words.{rulesOf, haloOf}
 use Rattle.waits.specs.declared.waits.Block.the-variants.{At}
 use Rattle.waits.specs.Pieces.{blocks}

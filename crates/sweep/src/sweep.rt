@@ -1,11 +1,11 @@
 // A turn of check: one piece, or a row of them whose errors are marked one by one and which then ends waiting all at once.
-use paint::table::tiles_after;
 use piece::rows::near_area;
 use plane::tile::Area;
 use plane::words::room_in;
 use plane::words::wide;
 use remark::remark::end_waiting;
 use remark::remark::remark;
+use tables::table::tiles_after;
 use waits::waits::next_waiting;
 use waits::waits::row_of;
 ghost use mathlib.Core.Path.{_≡_};

@@ -4,7 +4,7 @@ use borrow.Author.Needs.{needs}
 use Rattle.answers.proofs.Looks.{check-comes}
 use Rattle.desk.proofs.Draws.{comes-as}
 use Rattle.desk.specs.declared.state.Answered.{Answered}
-use Rattle.commands.specs.declared.reply.Reply.{Reply}
+use Rattle.replies.specs.declared.reply.Reply.{Reply}
 use Rattle.answers.proofs.look.check_pieces.Statement.{statement}
 use Rattle.answers.proofs.look.check_pieces.Tie as tie
 

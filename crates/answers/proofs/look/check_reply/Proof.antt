@@ -1,8 +1,8 @@
 -- `check_reply`. Each case says its numbers.
 use mathlib.Core.Path.{sym, ap}
 use borrow.Author.Needs.{needs}
-use Rattle.commands.specs.declared.reply.Reply.{Reply}
-use Rattle.commands.specs.declared.reply.Reply.the-variants as reply
+use Rattle.replies.specs.declared.reply.Reply.{Reply}
+use Rattle.replies.specs.declared.reply.Reply.the-variants as reply
 use Rattle.checker.specs.Answers.{checkNumber, checkDone, checkLeft}
 use Rattle.checker.specs.declared.check.CheckAnswer.{CheckAnswer}
 use Rattle.answers.proofs.look.check_reply.Statement.{statement}

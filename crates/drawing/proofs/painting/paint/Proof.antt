@@ -1,5 +1,5 @@
 -- The outcome is that of `paint_tables`; the working room is cleared whatever it was.
-use Rattle.paint.proofs.Fills.{all-cleared}
+use Rattle.tables.proofs.Fills.{all-cleared}
 use lib.ListN.{replicate}
 use mathlib.Core.Path.{_∙_, ap}
 use Prim.Native.Nat.{ℕ}

@@ -1,0 +1,24 @@
+-- `put_two`. The word, and then the rest of the line.
+use native.Mathlib.Omega.{arith}
+use borrow.Author.Needs.{needs}
+use Rattle.text.proofs.Puts.{put-both}
+use Rattle.replies.proofs.reply.put_two.Statement.{statement}
+use Rattle.replies.proofs.reply.put_two.Tie as tie
+
+put-word-requires : tie.Need-put-word-requires
+put-word-requires c κs = search needs
+
+put-ends-requires : tie.Need-put-ends-requires
+put-ends-requires c κs = search needs
+
+same-length : tie.Need-same-length
+same-length c = search needs
+
+returns : tie.Need-returns
+returns c = (
+  put-both _ _ _ _ _ _ _ _ (c .before .before .before .before .before .before .put-word .ensures) (c .before .before .put-ends .ensures .0),
+  omega (arith, c .before .before .before .before .before .before .put-word .ensures .next, c .before .before .put-ends .ensures .1, c .before .before .before .before .before .before .before .before .before .before .pre),
+)
+
+pub put-two-spec : {M : Type 1} → statement M
+put-two-spec = tie.close (tie.spec put-word-requires put-ends-requires same-length returns)

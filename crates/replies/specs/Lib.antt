@@ -1,0 +1,3 @@
+-- What the contracts of the replies cite, and worked replies.
+pub mod Reply
+pub mod Worked

@@ -1,0 +1,2 @@
+// The session's replies: a reply to its bytes.
+pub mod reply;

@@ -1,0 +1,4 @@
+-- The laws of the program, each file named after its subject.
+pub mod Exchanges
+pub mod Wires
+pub mod Turns

@@ -1,0 +1,2 @@
+// Whole tables: of a window of space, and of the picture that a brush leaves.
+pub mod table;
