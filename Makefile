@@ -18,7 +18,7 @@ SCRIPTS = 100
 N = 1000000
 SEED = 1
 ROUNDS = 5
-JOBS = 6
+JOBS = 3
 SESSION = target/bin/session
 STRICT = -std=c99 -Wall -Wextra -Wpedantic -Werror
 CFLAGS = -O2 -g
@@ -41,7 +41,7 @@ demo:
 # A check writes the modules of the crates below its own to temporary files, up to 400 MB: to memory, where there is room.
 MEMORY := $(shell df --output=avail -BG /dev/shm 2>/dev/null | awk 'NR == 2 && $$1 + 0 >= 8 { print "TMPDIR=/dev/shm" }')
 
-# rt ci removes target/ and proves all, JOBS checks at a time: more than two keep two cores busy, since a level of crates waits for its longest.
+# rt ci removes target/ and proves all, JOBS checks at a time: three keep two cores busy where one of two would wait for the other; six are slower.
 # The archive and the program are taken from what it leaves. Its last line is printed again at the end.
 test:
 	@rt fmt --check
