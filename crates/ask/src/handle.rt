@@ -10,7 +10,7 @@ use crate::query::{neighbours_at, point_at};
 use plane::answer::{Counted, Point};
 use plane::words::header_word;
 
-#[derive(Drop)]
+#[derive(Clone, Copy)]
 pub struct Handle<'a> {
     pub table: &'a [u16],
     pub width: u16,

@@ -11,7 +11,7 @@ use plane::listing::note;
 use plane::tile::Tile;
 use plane::words::{less, nth_tile};
 
-#[derive(Drop)]
+#[derive(Clone, Copy)]
 pub struct Square {
     pub x: u16,
     pub y: u16,

@@ -10,7 +10,7 @@ use plane::tile::Tile;
 use plane::words::{least, most, nth_tile, wide};
 
 // The squares with x1 <= x < x2 and y1 <= y < y2, and what they are set to: one kind, or bits, bit x - x1 of row y - y1.
-#[derive(Drop)]
+#[derive(Clone, Copy)]
 pub struct Brush {
     pub x1: u16,
     pub y1: u16,

@@ -11,7 +11,7 @@ use tables::table::clear;
 use waits::waits::{Block, lowest_waiting, waiting_pieces};
 
 // The answer of check: the pieces done and left, also where a piece found no room (Full); or what the tests refuse.
-#[derive(Drop)]
+#[derive(Clone, Copy)]
 pub enum CheckAnswer {
     Done(usize, usize),
     Full(usize, usize),

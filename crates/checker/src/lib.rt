@@ -1,2 +1,4 @@
 // Check: turn by turn, until none waits.
+#![tactic(auto)]
+
 pub mod check;

@@ -8,7 +8,7 @@ use crate::numbers::numbers_in;
 use text::part::{part_end, unblanked_length};
 
 // A command with its numbers in the order in which they stand; Nothing is a line that is no command.
-#[derive(Drop)]
+#[derive(Clone, Copy)]
 pub enum Command {
     New {
         w: u16,

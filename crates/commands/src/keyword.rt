@@ -5,7 +5,7 @@ ghost use Rattle.commands.specs.Command.{keyword_of, arity};
 use text::word::same;
 
 // The word that a line begins with.
-#[derive(Drop)]
+#[derive(Clone, Copy)]
 pub enum Keyword {
     New,
     Rule,

@@ -7,7 +7,7 @@ use text::number::{Number, number_in};
 use text::part::part_end;
 
 // The first `count` of `n`, where `good`.
-#[derive(Drop)]
+#[derive(Clone, Copy)]
 pub struct Numbers {
     pub good: bool,
     pub count: usize,

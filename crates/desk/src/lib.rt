@@ -1,5 +1,7 @@
 // The desk of the session: three tables, a working room and a rule list, and what each command does to them and is answered.
 // No public calls: whoever uses it owns the slices, and keeps what specs/Kept says of them.
+#![tactic(auto)]
+
 pub mod draw;
 pub mod ruling;
 pub mod state;

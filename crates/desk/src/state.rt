@@ -6,7 +6,7 @@ use plane::answer::{Answer, refusal_number};
 use replies::reply::Reply;
 
 // Was a `new` accepted, a paint since, and how many rules are used?
-#[derive(Drop)]
+#[derive(Clone, Copy)]
 pub struct Desk {
     pub ready: bool,
     pub painted: bool,
@@ -14,7 +14,7 @@ pub struct Desk {
 }
 
 // The desk after a command, and the reply to it.
-#[derive(Drop)]
+#[derive(Clone, Copy)]
 pub struct Answered {
     pub desk: Desk,
     pub reply: Reply,

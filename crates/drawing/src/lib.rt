@@ -1,3 +1,5 @@
 // A layout made and painted.
+#![tactic(auto)]
+
 pub mod create;
 pub mod painting;

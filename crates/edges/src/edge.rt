@@ -5,7 +5,7 @@ ghost use Rattle.edges.specs.Edge.{Marked, Local, Small, Steps, one, deep, past,
 use rules::rule::{Rule, member};
 
 // A direction of crossing and a direction along the edge: what a step of each adds to an index and takes from it.
-#[derive(Drop)]
+#[derive(Clone, Copy)]
 pub struct Turn {
     pub wp: usize,
     pub wm: usize,

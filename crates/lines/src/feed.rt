@@ -9,7 +9,7 @@ use replies::reply::put_reply;
 use text::line::Line;
 
 // The state, and how many bytes of replies stand in the slice.
-#[derive(Drop)]
+#[derive(Clone, Copy)]
 pub struct Fed {
     pub state: State,
     pub n: usize,

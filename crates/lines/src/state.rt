@@ -12,7 +12,7 @@ use replies::reply::Reply;
 use text::line::{Line, fresh, push};
 use text::script::opened;
 
-#[derive(Drop)]
+#[derive(Clone, Copy)]
 pub struct State {
     pub text: Line,
     pub desk: Desk,
@@ -20,14 +20,14 @@ pub struct State {
 }
 
 // A line's command, and the line's number.
-#[derive(Drop)]
+#[derive(Clone, Copy)]
 pub struct Asked {
     pub command: Command,
     pub line: u64,
 }
 
 // The state after a line, and the reply to it.
-#[derive(Drop)]
+#[derive(Clone, Copy)]
 pub struct Ended {
     pub state: State,
     pub reply: Reply,

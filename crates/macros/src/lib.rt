@@ -1,2 +1,4 @@
 // The macros width and spacing, and the rules that they write.
+#![tactic(auto)]
+
 pub mod macros;

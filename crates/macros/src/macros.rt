@@ -15,7 +15,7 @@ use rules::list::list_tests;
 use rules::rule::{Rule, member};
 
 // What all rules of one expansion share; d is their ce too.
-#[derive(Drop)]
+#[derive(Clone, Copy)]
 pub struct Made {
     pub d: u16,
     pub allowed: u16,
@@ -24,7 +24,7 @@ pub struct Made {
 }
 
 // The answer of a macro: the new count of used rules.
-#[derive(Drop)]
+#[derive(Clone, Copy)]
 pub enum MacroAnswer {
     Used(usize),
     No(Refusal),

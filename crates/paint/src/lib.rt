@@ -1,2 +1,4 @@
 // One plane painted: the calls.
+#![tactic(auto)]
+
 pub mod paint;

@@ -9,7 +9,7 @@ use plane::tile::Area;
 use plane::words::{least, nth_tile, wide};
 
 // The bits of a row, and the row above the last one that has the same.
-#[derive(Drop)]
+#[derive(Clone, Copy)]
 pub struct Shown {
     pub word: u64,
     pub top: u16,

@@ -15,9 +15,9 @@ use Rattle.plane.proofs.Basics.{lt_or_ge}
 pub joined_mem : {A : Type 0} {a : A} (n : ℕ) (f : ℕ → List A) → Memᴰ a (joined n f) → (i : ℕ) × (i < n) × Memᴰ a (f i)
 unfolding joined
 joined_mem zero f m = absurd (Memᴰ.not-nil m)
-joined_mem (suc n) f m =
+joined_mem {A} {a} (suc n) f m =
     ⊎_elim
-    (λ u. let r = joined_mem n f u in (r.0, omega (arith, r.1), r.2))
+    (λ u. let r = joined_mem {A = A} {a = a} n f u in (r.0, omega (arith, r.1), r.2))
     (λ u. (n, omega arith, u))
     (Memᴰ.append_cases (joined n f) m)
 

@@ -3,7 +3,7 @@ ghost use Rattle.std.specs.Prelude.{◌≡◌};
 ghost use Rattle.plane.specs.Answers.{refusal_number, number};
 
 // Why a call says no, in the order of its numbers 1 to 7.
-#[derive(Drop)]
+#[derive(Clone, Copy)]
 pub enum Refusal {
     Lengths,
     Sizes,
@@ -15,21 +15,21 @@ pub enum Refusal {
 }
 
 // The answer of a call that only changes what it is lent.
-#[derive(Drop)]
+#[derive(Clone, Copy)]
 pub enum Answer {
     Done,
     No(Refusal),
 }
 
 // The answer of point: the number of a tile.
-#[derive(Drop)]
+#[derive(Clone, Copy)]
 pub enum Point {
     At(u16),
     No(Refusal),
 }
 
 // The answer of a call that counts or lists.
-#[derive(Drop)]
+#[derive(Clone, Copy)]
 pub enum Counted {
     Count(usize),
     No(Refusal),

@@ -8,7 +8,7 @@ ghost use Rattle.plane.specs.Words.{count, width, height, word};
 use crate::words::word_at;
 
 // What a look-up finds: the number of a tile, or nothing.
-#[derive(Drop)]
+#[derive(Clone, Copy)]
 pub enum Found {
     At(u16),
     Nothing,

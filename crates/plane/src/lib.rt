@@ -1,4 +1,6 @@
 // The tile plane: tables of strips, the walk to a square, and what an area holds.
+#![tactic(auto)]
+
 pub mod answer;
 pub mod area;
 pub mod fill;

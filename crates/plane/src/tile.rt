@@ -3,7 +3,7 @@ ghost use Rattle.std.specs.Prelude.{◌≡◌, ◌+◌, ◌*◌, ◌<◌};
 ghost use Rattle.plane.specs.Strips.{Holds, Precedes};
 ghost use Rattle.plane.specs.Words.{Says};
 
-#[derive(Drop)]
+#[derive(Clone, Copy)]
 pub struct Tile {
     pub left: u16,
     pub bottom: u16,
@@ -13,7 +13,7 @@ pub struct Tile {
 }
 
 // The squares with x1 <= x < x2 and y1 <= y < y2.
-#[derive(Drop)]
+#[derive(Clone, Copy)]
 pub struct Area {
     pub x1: u16,
     pub y1: u16,

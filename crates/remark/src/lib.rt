@@ -1,2 +1,4 @@
 // The errors of one piece, marked anew.
+#![tactic(auto)]
+
 pub mod remark;

@@ -1,2 +1,4 @@
 // The session's replies: a reply to its bytes.
+#![tactic(auto)]
+
 pub mod reply;

@@ -7,7 +7,7 @@ use text::number::put_decimal;
 use text::word::{put_byte, put_word};
 
 // What a line is answered with.
-#[derive(Drop)]
+#[derive(Clone, Copy)]
 pub enum Reply {
     Ok,
     No {

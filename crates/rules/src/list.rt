@@ -11,14 +11,14 @@ use plane::answer::{Answer, Refusal};
 use plane::words::most;
 
 // The answer of vet_rules: all rules are within their ranges, or the place of the lowest that is not.
-#[derive(Drop)]
+#[derive(Clone, Copy)]
 pub enum RulesAnswer {
     Sound,
     BadAt(u16),
 }
 
 // The answer of vet_list. Each refusal is a case of its own, so that its number and place tell the answer.
-#[derive(Drop)]
+#[derive(Clone, Copy)]
 pub enum ListAnswer {
     Sound,
     Lengths,
@@ -27,7 +27,7 @@ pub enum ListAnswer {
 }
 
 // The answer of halo.
-#[derive(Drop)]
+#[derive(Clone, Copy)]
 pub enum HaloAnswer {
     Reach(u16),
     No(Refusal),

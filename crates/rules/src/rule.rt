@@ -4,7 +4,7 @@ ghost use Rattle.rules.specs.Sets.{member};
 ghost use Rattle.rules.specs.Words.{rule_at, sound};
 
 // The words of a rule, in their order. A set has bit t for type t; fourway is the paper's kind.
-#[derive(Drop)]
+#[derive(Clone, Copy)]
 pub struct Rule {
     pub type1: u16,
     pub type2: u16,

@@ -2,6 +2,8 @@
 // What is proved: what is said over the wire is what `written` (lines/specs/Session) says of what is heard, byte for byte and however the reads cut it, and the replies to the
 // lines that end in a read are said before the next (Conversed, specs/Conversed). wire.rt has the two ends of the wire, and says what is left to trust.
 // A write that fails ends the reading. The system ends a process that writes to a pipe without a reader (SIGPIPE), unless its parent has it ignore that signal.
+#![tactic(auto)]
+
 mod turn;
 mod wire;
 

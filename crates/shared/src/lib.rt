@@ -1,2 +1,4 @@
 // What two tables share.
+#![tactic(auto)]
+
 pub mod shared;

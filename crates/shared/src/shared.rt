@@ -8,7 +8,7 @@ use plane::tile::Tile;
 use plane::words::{least, nth_tile, wide};
 
 // The four stitches of a tile.
-#[derive(Drop)]
+#[derive(Clone, Copy)]
 pub struct Links {
     pub lb: u16,
     pub bl: u16,
@@ -17,7 +17,7 @@ pub struct Links {
 }
 
 // The tiles that two tables share: the first `low` of both, and tiles `old` to `end` - 1 of the one, which are those from `new` on in the other.
-#[derive(Drop)]
+#[derive(Clone, Copy)]
 pub struct Shared {
     pub low: usize,
     pub old: usize,

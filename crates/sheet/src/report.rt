@@ -15,14 +15,14 @@ use plane::words::{least, less};
 use rules::list::halo_of;
 
 // The errors of an area: squares, and tiles listed; or the listing has no room.
-#[derive(Drop)]
+#[derive(Clone, Copy)]
 pub enum Errors {
     Listed { squares: usize, tiles: usize },
     Full,
 }
 
 // The answer of report. Each refusal is a case of its own, so that its number and place tell the answer.
-#[derive(Drop)]
+#[derive(Clone, Copy)]
 pub enum ReportAnswer {
     Found {
         settled: u16,

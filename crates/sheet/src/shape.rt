@@ -10,7 +10,7 @@ use rules::list::{RulesAnswer, list_length, vet_rules};
 use vet::vet::is_table;
 
 // The answer of ready. Each refusal is a case of its own, so that its number and place tell the answer.
-#[derive(Drop)]
+#[derive(Clone, Copy)]
 pub enum Tested {
     Good,
     Lengths,

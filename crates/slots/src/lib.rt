@@ -1,2 +1,4 @@
 // Tiles in a working slice: put, moved, kept in order and looked up.
+#![tactic(auto)]
+
 pub mod slots;

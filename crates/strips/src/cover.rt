@@ -14,7 +14,7 @@ use plane::words::{least, less, nth_tile, wide};
 use slots::slots::{append, find_low, insert, past, place_of, put_tile, under};
 
 // A number of tiles, and the right end and the top of one of them.
-#[derive(Drop)]
+#[derive(Clone, Copy)]
 pub struct Spot {
     pub count: usize,
     pub right: u16,

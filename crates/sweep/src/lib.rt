@@ -1,2 +1,4 @@
 // A turn of check: one piece, or a row of them.
+#![tactic(auto)]
+
 pub mod sweep;

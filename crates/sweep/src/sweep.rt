@@ -14,14 +14,14 @@ use tables::table::tiles_after;
 use waits::waits::{next_waiting, row_of};
 
 // What a run or a turn of it came to: the pieces done, and whether it met a piece without room.
-#[derive(Drop)]
+#[derive(Clone, Copy)]
 pub struct Ran {
     pub done: usize,
     pub full: bool,
 }
 
 // What a row came to: the same, and the column before which all is done in it.
-#[derive(Drop)]
+#[derive(Clone, Copy)]
 pub struct Swept {
     pub done: usize,
     pub end: u16,

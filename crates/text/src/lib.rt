@@ -1,4 +1,6 @@
 // Bytes: decimal numbers in and out, fixed words matched and written, the parts of a line, the script reader, the line buffer.
+#![tactic(auto)]
+
 pub mod line;
 pub mod number;
 pub mod part;

@@ -3,7 +3,7 @@ ghost use Rattle.std.specs.Prelude.{List, [], ◌∷◌, ◌++◌, ℕ};
 ghost use Rattle.text.specs.Line.{Reads, Sound};
 
 // The first `count` of `bytes` are the line's, unless it is too long.
-#[derive(Drop)]
+#[derive(Clone, Copy)]
 pub struct Line {
     pub bytes: [u8; 200],
     pub count: usize,

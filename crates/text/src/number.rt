@@ -5,7 +5,7 @@ ghost use Rattle.text.specs.Number.{number_of};
 ghost use Rattle.text.specs.Put.{Put};
 
 // A part as a number: up to 65535, or none.
-#[derive(Drop)]
+#[derive(Clone, Copy)]
 pub enum Number {
     Is(u16),
     Not,

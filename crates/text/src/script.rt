@@ -4,7 +4,7 @@ ghost use Rattle.std.specs.Prelude.{◌≡◌, ◌+◌, ◌<◌, ◌^◌};
 ghost use Rattle.text.specs.Script.{past_blanks, skipped, next_line};
 
 // A place in a line, and the line's number.
-#[derive(Drop)]
+#[derive(Clone, Copy)]
 pub struct Script {
     pub at: usize,
     pub line: u64,

@@ -1,2 +1,4 @@
 // Which pieces of a window wait.
+#![tactic(auto)]
+
 pub mod waits;

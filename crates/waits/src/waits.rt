@@ -10,7 +10,7 @@ use plane::tile::Tile;
 use plane::words::{nth_tile, wide, word_at};
 
 // A piece by column and row, or none.
-#[derive(Drop)]
+#[derive(Clone, Copy)]
 pub enum Block {
     At(u16, u16),
     Nothing,

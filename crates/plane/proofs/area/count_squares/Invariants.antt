@@ -1,0 +1,12 @@
+use Prim.Native.Nat.{◌≤◌, ◌-◌, ◌*◌}
+use mathlib.Core.Path.{◌≡◌}
+use Rattle.plane.specs.Area.{shared}
+use Rattle.plane.specs.Picture.{sum_to}
+use Rattle.plane.specs.Words.{count, tile_of}
+use Rattle.plane.proofs.area.count_squares.Given as goal
+
+abbrev pub invariant-loop-i : goal.invariant-loop-i
+invariant-loop-i l = (l.n ≡ count l.t) × (l.i ≤ l.n) × (l.sum ≡ sum_to l.i (λ j. shared (tile_of l.t j) l.kind l.a)) × (l.sum ≤ 16777216 * l.i)
+
+abbrev pub decreases-loop-i : goal.decreases-loop-i
+decreases-loop-i l = l.n - l.i
