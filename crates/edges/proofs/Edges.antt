@@ -57,7 +57,7 @@ module _ (ks : List ℕ) (all : Bool) (t : Turn) (at : ℕ) (r : Rule) where
         and_right (leb 83 (at - t.wm) && ltb (at - t.wm) 6641) (goes_hit ks all t (at - t.wm) r q) e,
       )
 
--- ---- a one_way rule
+-- ---- a one-way rule
 lacking : (r : Rule) → r.fourway ≡ 0 → goes false r ≡ false
 unfolding goes
 lacking r e = ap not (eq-eqb r.fourway 0 e)
