@@ -5,4 +5,3 @@ pub mod Numbers
 pub mod Puts
 pub mod Decimals
 pub mod Lines
-pub mod Scripts

@@ -1,5 +1,5 @@
 // The script reader: where in a line it stands, and the line's number. The thin functions over `&mut Script` take the struct apart;
-// each is proved by hand. `opened` makes the struct and lends it on. Its parameters are plain and its result is by value, so it serves every caller.
+// `opened` makes the struct and lends it on. Its parameters are plain and its result is by value, so it serves every caller.
 ghost use Rattle.std.specs.Prelude.{◌≡◌, ◌+◌, ◌<◌, ◌^◌};
 ghost use Rattle.text.specs.Script.{past_blanks, skipped, next_line};
 

@@ -1,7 +1,7 @@
 use mathlib.Core.Path.{◌≡◌}
 use Prim.Native.Nat.{◌+◌, ◌-◌}
 use lib.ListN.{length, drop}
-use Rattle.text.specs.Part.{blank, blanks}
+use Rattle.text.specs.Part.{blanks}
 use Rattle.text.proofs.script.past_blanks.Given as goal
 
 abbrev pub invariant-loop-i : goal.invariant-loop-i
