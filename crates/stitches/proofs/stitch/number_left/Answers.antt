@@ -1,0 +1,10 @@
+-- The square to the left, by `before_some` and `before_none`.
+use mathlib.Core.Path.{◌∙◌}
+use Rattle.stitches.proofs.Stitches.{before_none, before_some}
+use Rattle.stitches.proofs.stitch.number_left.Goals as goal
+
+pub returns-then-x-gt0 : goal.returns-then-x-gt0
+returns-then-x-gt0 c = c.number_low.ensures ∙ before_some _ _ c.if-x-gt0.true
+
+pub returns : goal.returns
+returns c = before_none _ _ c.if-x-gt0.false
