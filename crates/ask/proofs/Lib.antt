@@ -2,4 +2,3 @@
 pub mod Alongs
 pub mod Asked
 pub mod Once
-pub mod Handles

@@ -1,5 +1,5 @@
 // A reading handle on one plane: the lent table with its width and height. Its functions are thin: each takes it apart and calls a plain one.
-// The borrow checker covers no function over such a struct, so each is proved by hand; `point` and `neighbours`, whose parameters are plain, serve every other caller.
+// `point` and `neighbours`, whose parameters are plain, make a handle and ask it.
 ghost use Rattle.std.specs.Prelude.{◌≡◌};
 ghost use Rattle.plane.specs.Answers.{point_number, point_tile, count_number, count_value};
 ghost use Rattle.plane.specs.Point.{Pointed};

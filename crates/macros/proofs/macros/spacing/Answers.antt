@@ -1,0 +1,27 @@
+-- `spacing`. Refused by the tests, or all of them passed: then the tail is lent to the writer and comes back.
+use Rattle.macros.proofs.Expands.{passed, tail_room, expanded_no, expanded_done}
+use Rattle.macros.proofs.Spaces.{spacing_count_lem}
+use Rattle.macros.specs.Macros.{spacing}
+use native.Mathlib.Omega.{arith}
+use Rattle.macros.proofs.macros.spacing.Goals as goal
+
+pub returns-in-No : goal.returns-in-No
+returns-in-No c =
+    let a = c.args in
+    expanded_no c.spacing_tests-tested.ensures (spacing_count_lem a.t a.a a.b a.d a.touch a.reason) c.in-No.is
+
+pub put_spacing-n-requires : goal.put_spacing-n-requires
+put_spacing-n-requires c =
+    let a = c.args in
+    let P = passed c.spacing_tests-tested.ensures (spacing_count_lem a.t a.a a.b a.d a.touch a.reason) c.in_default.is in
+    (P.listed.kinds.sixteen, P.inside, tail_room a.rules.now a.used (spacing a.t a.a a.b a.d a.touch a.reason) P.fits)
+
+pub overflow_add-result : goal.overflow_add-result
+overflow_add-result c =
+    let a = c.args in
+    omega (arith, passed c.spacing_tests-tested.ensures (spacing_count_lem a.t a.a a.b a.d a.touch a.reason) c.in_default.is, c.put_spacing-n.ensures.next)
+
+pub returns : goal.returns
+returns c =
+    let a = c.args in
+    expanded_done (passed c.spacing_tests-tested.ensures (spacing_count_lem a.t a.a a.b a.d a.touch a.reason) c.in_default.is) c.put_spacing-n.ensures
