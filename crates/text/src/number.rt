@@ -12,6 +12,7 @@ pub enum Number {
 }
 
 // The number that a part is.
+#[tactic(auto, using(crate::proofs::Numbers::number_start, crate::proofs::Numbers::number_low, crate::proofs::Numbers::number_high, crate::proofs::Numbers::number_on, crate::proofs::Numbers::number_over, crate::proofs::Numbers::number_end))]
 pub fn number_in(word: &[u8]) -> Number
     ensures { result ≡ number_of word.now }
 {

@@ -11,6 +11,7 @@ pub struct Script {
 }
 
 // The place after the blanks that stand at `at`.
+#[tactic(auto, using(crate::proofs::Parts::scan_end, crate::proofs::Parts::scan_stop, crate::proofs::Parts::scan_on))]
 pub fn past_blanks(text: &[u8], at: usize) -> usize
     ensures { result ≡ past_blanks text.now at }
 {
