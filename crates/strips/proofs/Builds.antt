@@ -114,12 +114,9 @@ kept_working L K u v = record { few = omega (arith, K.few, L.most); long = v; pa
 pub kept_under : {ws us : List ℕ} {b : Brush} {j k : ℕ} → Given ws b → LowTo ws b j → Kept ws b us j k → AllUnder us k (width ws) b.y1
 kept_under I L K i z u v = kept_low I L K i z u (omega (arith, I.brush)) v
 
--- the three ends of the rebuild: no room for the zone's strips, none for the tiles that begin higher, and room for all
+-- the ends of the rebuild once the zone is covered: no room for the tiles that begin higher, and room for all
 module _ {ws us vs : List ℕ} {b : Brush} {j k m room : ℕ} (I : Given ws b) (L : LowTo ws b j) (K : Kept ws b us j k)
     (C : CoversZone (width ws) (height ws) (goal ws b) room us k (b.x1 - 1) (min (b.x2 + 1) (width ws)) (min (b.y2 + 1) (height ws)) vs m) where
-  pub built_full : room < m → Built (width ws) (height ws) (goal ws b) room vs m
-  built_full u = record { full = C.full; built = λ v. absurd (omega arith) }
-
   module _ {n i : ℕ} (u : m ≤ room) (e : n ≡ count ws) (f : i ≡ j) where
     whole : up_to m (tile_of vs) ++ up_to (n - i) (tile_from ws i) ≡ tiles (width ws) (height ws) (goal ws b)
     whole = rw (e, f) (all_built I L K (C.grown u) (C.zone u))
