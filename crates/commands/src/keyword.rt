@@ -18,6 +18,7 @@ pub enum Keyword {
 }
 
 // The keyword that a word is, byte for byte.
+#[tactic(auto, unfolding(crate::specs::Command::keyword_in))]
 pub fn keyword_in(word: &[u8]) -> Keyword
     ensures { result ≡ keyword_of word.now }
 {

@@ -10,7 +10,7 @@ use native.Mathlib.Decide.{ℕ_discrete}
 use lib.ListN.{length, get_or, set, length-set}
 use lib.Seq.{get_or-set_same, get_or-set_other}
 use lib.Dec.{eqb}
-use borrow.Author.Tests.{eq-eqb, ne_eqb, not-true, not-false}
+use borrow.Author.Tests.{eq-eqb, ne_eqb}
 use Rattle.rules.specs.declared.rule.Rule.{Rule}
 use Rattle.rules.specs.Some.{some}
 use Rattle.rules.specs.Sets.{member}
@@ -121,18 +121,18 @@ module _ (ks : List ℕ) (r : Rule) (t : Turn) (at : ℕ) where
   unfolding hit
   hit_none e q = rw e
 
-  pub no_edge : {b : Bool} {m : List ℕ} → b ≡ edge_at ks r t at → not b ≡ true → Marked (hit ks r t at) m m
-  no_edge {b} e f = keep (hit_none (sym e ∙ not-true b f))
+  pub no_edge : {b : Bool} {m : List ℕ} → b ≡ edge_at ks r t at → b ≡ false → Marked (hit ks r t at) m m
+  no_edge {b} e f = keep (hit_none (sym e ∙ f))
 
-  pub straight : {b c : Bool} {m m₁ : List ℕ} → b ≡ edge_at ks r t at → not b ≡ false → c ≡ turns_at ks r t at → not c ≡ true
+  pub straight : {b c : Bool} {m m₁ : List ℕ} → b ≡ edge_at ks r t at → b ≡ true → c ≡ turns_at ks r t at → c ≡ false
       → Marked (deep ks r.allowed r.d t.wp t.wm at 0) m m₁ → Marked (hit ks r t at) m m₁
   unfolding hit
-  straight {b} {c} e f g h a = relabel a (λ q. rw (sym e ∙ not-false b f, sym g ∙ not-true c h) (sym (or-false _)))
+  straight {b} {c} e f g h a = relabel a (λ q. rw (sym e ∙ f, sym g ∙ h) (sym (or-false _)))
 
-  pub turned : {b c : Bool} {m m₁ m₂ : List ℕ} → b ≡ edge_at ks r t at → not b ≡ false → c ≡ turns_at ks r t at → not c ≡ false
+  pub turned : {b c : Bool} {m m₁ m₂ : List ℕ} → b ≡ edge_at ks r t at → b ≡ true → c ≡ turns_at ks r t at → c ≡ true
       → Marked (deep ks r.allowed r.d t.wp t.wm at 0) m m₁ → Marked (past ks r t at r.ce) m₁ m₂ → Marked (hit ks r t at) m m₂
   unfolding hit
-  turned {b} {c} e f g h a p = relabel (and_then a p) (λ q. rw (sym e ∙ not-false b f, sym g ∙ not-false c h))
+  turned {b} {c} e f g h a p = relabel (and_then a p) (λ q. rw (sym e ∙ f, sym g ∙ h))
 
   -- ---- for a rule that has the direction, and one that has not
   pub goes_not : (all : Bool) {m : List ℕ} → goes all r ≡ false → Marked (goes_hit ks all t at r) m m

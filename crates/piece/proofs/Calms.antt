@@ -28,9 +28,9 @@ use Rattle.piece.proofs.Remarks.{halo_in, rules_near, near_same}
 
 -- ---- one tile
 -- the code's test of the tile
-pub covering : (b : Bool) {t : Tile} {a c : Area} → Says b (Covers t a) → not b ≡ false → a ≡ c → Covers t c
+pub covering : (b : Bool) {t : Tile} {a c : Area} → Says b (Covers t a) → b ≡ true → a ≡ c → Covers t c
 covering true s e f = rw f at s
-covering false s e f = tf e
+covering false s e f = tf (sym e)
 
 -- a square of the window within 2 k of the block is the tile's
 covered : (ws : List ℕ) (i k bx by : ℕ) → Plane ws → i < count ws → Covers (tile_of ws i) (near_area (width ws) (height ws) (2 * k) bx by) → (x y : ℕ) → in_area (window (width ws) (height ws)) x y ≡ true

@@ -21,6 +21,7 @@ use Rattle.plane.proofs.Tiles.{tile_end, tile_shows}
 
 -- ---- a run of ones above a word of d bits, up to bit e
 ones_bit : (e i : ℕ) → i < e → bit_of (2 ^ e - 1) i ≡ 1
+ones_bit zero i l = absurd (omega arith)
 ones_bit (suc e) zero l = omega (arith, pow-succ' 2 e, pow_pos e)
 ones_bit (suc e) (suc i) l =
     let h : (2 ^ suc e - 1) / 2 ≡ 2 ^ e - 1 = omega (arith, pow-succ' 2 e, pow_pos e) in
@@ -31,6 +32,8 @@ half_run d e w l = omega (arith, pow-succ' 2 d, pow-succ' 2 e, pow_mono {i = d} 
 
 -- below it the bits stay
 ones_below : (d e w i : ℕ) → d ≤ e → i < d → bit_of (w + (2 ^ e - 2 ^ d)) i ≡ bit_of w i
+ones_below zero e w i l u = absurd (omega arith)
+ones_below (suc d) zero w i l u = absurd (omega arith)
 ones_below (suc d) (suc e) w zero l u = omega (arith, pow-succ' 2 d, pow-succ' 2 e, pow_mono {i = d} {j = e} (omega arith))
 ones_below (suc d) (suc e) w (suc i) l u =
     bit_half (w + (2 ^ suc e - 2 ^ suc d)) i ∙ ap (λ z. bit_of z i) (half_run d e w (omega arith)) ∙ ones_below d e (w / 2) i (omega arith) (omega arith) ∙ sym (bit_half w i)
@@ -38,6 +41,8 @@ ones_below (suc d) (suc e) w (suc i) l u =
 -- in it they are 1
 ones_in : (d e w i : ℕ) → w < 2 ^ d → d ≤ i → i < e → bit_of (w + (2 ^ e - 2 ^ d)) i ≡ 1
 ones_in zero e w i s l u = let f : w + (2 ^ e - 1) ≡ 2 ^ e - 1 = omega arith in ap (λ z. bit_of z i) f ∙ ones_bit e i u
+ones_in (suc d) zero w i s l u = absurd (omega arith)
+ones_in (suc d) (suc e) w zero s l u = absurd (omega arith)
 ones_in (suc d) (suc e) w (suc i) s l u =
     bit_half (w + (2 ^ suc e - 2 ^ suc d)) i ∙ ap (λ z. bit_of z i) (half_run d e w (omega arith)) ∙ ones_in d e (w / 2) i (omega (arith, pow-succ' 2 d)) (omega arith) (omega arith)
 

@@ -1,3 +1,4 @@
+-- `next_waiting`. Each turn passes one column more that does not wait.
 use Prim.Native.Nat.{ℕ, ◌-◌, ◌<◌, ◌≤◌}
 use mathlib.Core.Path.{◌≡◌}
 use lib.ListN.{get_or}

@@ -1,0 +1,10 @@
+-- `mark_range`. Each turn adds one index more.
+use Rattle.edges.proofs.Edges.{edges_start, edges_more}
+use native.Mathlib.Omega.{arith}
+use Rattle.edges.proofs.near.mark_range.Goals as goal
+
+pub loop-k-init : goal.loop-k-init
+loop-k-init c = (omega arith, edges_start _ _ _ _)
+
+pub loop-k-preserved : goal.loop-k-preserved
+loop-k-preserved c = (omega arith, edges_more _ _ _ _ c.loop-k.k c.loop-k.invariant.1 c.mark_at.ensures)

@@ -1,0 +1,7 @@
+-- `row_bits`. From the last mark down, each turn puts one bit more below; 48 bits fit.
+use Rattle.piece.proofs.Bits.{from_more}
+use native.Mathlib.Omega.{arith}
+use Rattle.piece.proofs.rows.row_bits.Goals as goal
+
+pub loop-j-preserved : goal.loop-j-preserved
+loop-j-preserved c = (omega arith, from_more c.loop-j-test.true c.loop-j.invariant.0 c.loop-j.invariant.1 c.bit_of.ensures.0 c.bit_of.ensures.1)

@@ -1,2 +1,0 @@
--- The laws of the shared tiles.
-pub mod Alikes
