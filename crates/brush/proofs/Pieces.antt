@@ -25,6 +25,10 @@ pub after_out : (p : Picture) (b : Brush) (x y : ℕ) → (Holds (brush_tile b) 
 unfolding after
 after_out p b x y h = ⊎_elim (λ e. absurd (h (holds_true (brush_tile b) x y e))) (λ e. rw e) (bool_cases (holds (brush_tile b) x y))
 
+-- ---- equal bits of a word
+pub bits_none : {word bit l : ℕ} → SameBits word bit l l
+bits_none = record { order = omega arith; each = λ j u v. absurd (omega arith) }
+
 -- equal bits on both sides of an equal bit
 pub bits_join : {word bit l m n r : ℕ} → SameBits word bit l m → bit_of word m ≡ bit → n ≡ m + 1 → SameBits word bit n r → SameBits word bit l r
 bits_join {m = m} A e f B = record {
@@ -65,6 +69,9 @@ clip_flat {w} {h} {p} {s} {b} {x} {y} {t} S A C = record {
 -- ---- a tile that was named and read
 pub read_at : (ws : List ℕ) {i j : ℕ} {s : Tile} → j ≡ i → s ≡ tile_of ws j → s ≡ tile_of ws i
 read_at ws e f = f ∙ ap (tile_of ws) e
+
+pub named_holds : {ws : List ℕ} {k j x y : ℕ} {s : Tile} → Names ws k x y → j ≡ k → s ≡ tile_of ws j → Holds s x y
+named_holds {ws} {x = x} {y = y} N e f = subst (λ (u : Tile). Holds u x y) (sym (read_at ws e f)) N.held
 
 pub named_flat : {ws : List ℕ} {b : Brush} {k j x y : ℕ} {s t : Tile} → Given ws b → Names ws k x y → j ≡ k → s ≡ tile_of ws j → Clipped s b x y t → Flat (width ws) (height ws) (goal ws b) x y t
 named_flat {ws} {k = k} G N e f C =

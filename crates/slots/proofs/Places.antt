@@ -66,6 +66,10 @@ pub record PlaceIn (ws : List ℕ) (n : ℕ) (t : Tile) (i j : ℕ) : Type 0 whe
   pub lower : (k : ℕ) → k < i → Precedes (tile_of ws k) t
   pub after : j < n → Precedes (tile_of ws j) t → ⊥
 
+-- at first nothing is known; then the middle tile comes before t, or it does not; and at last the two ends meet
+pub place_none : {ws : List ℕ} {n : ℕ} {t : Tile} → PlaceIn ws n t 0 n
+place_none = record { fits = omega arith; most = omega arith; lower = λ k u. absurd (omega arith); after = λ u. absurd (omega arith) }
+
 -- the middle tile comes before t: so do those below it
 pub place_up : {ws : List ℕ} {n : ℕ} {t : Tile} {i j m : ℕ} → InOrderTo ws n → PlaceIn ws n t i j → m < j → Precedes (tile_of ws m) t → PlaceIn ws n t (m + 1) j
 place_up {ws} {n} {t} {i} {j} {m} O P u p = record {
@@ -74,6 +78,16 @@ place_up {ws} {n} {t} {i} {j} {m} O P u p = record {
   lower = λ k v. ⊎_elim (λ (o : k < m). precedes_trans (tile_of ws k) (tile_of ws m) t (O k m o (omega (arith, P.most))) p) (λ (o : m ≤ k). let e : k ≡ m = omega arith in subst (λ (z : ℕ). Precedes (tile_of ws z) t) (sym e) p) (lt_or_ge k m);
   after = P.after;
 }
+
+pub place_down : {ws : List ℕ} {n : ℕ} {t : Tile} {i j m : ℕ} → PlaceIn ws n t i j → i ≤ m → m < j → (Precedes (tile_of ws m) t → ⊥) → PlaceIn ws n t i m
+place_down P u v f = record { fits = u; most = omega (arith, P.most); lower = P.lower; after = λ o. f }
+
+pub place_done : {ws : List ℕ} {n : ℕ} {t : Tile} {i j : ℕ} → PlaceIn ws n t i j → j ≤ i → PlaceOf ws n t i
+place_done {ws} {n} {t} {i} {j} P u = let e : i ≡ j = omega (arith, P.fits) in record { most = omega (arith, P.most); lower = P.lower; after = λ v p. P.after (omega arith) (subst (λ (z : ℕ). Precedes (tile_of ws z) t) e p) }
+
+-- ---- tiles that come after (x,y), which s marks, do not hold it: so those before s are all that need be asked
+pub low_hit : {ws : List ℕ} {n p x y r : ℕ} {s : Tile} → PlaceOf ws n s p → Sought ws 0 p x y r → r < p → Sought ws 0 n x y r
+low_hit P B u = record { most = omega (arith, P.most); held = λ v. B.held u; none = λ v. absurd (omega (arith, P.most)) }
 
 -- ---- tiles that come after (x,y), which s marks, do not hold it: so those before s are all that need be asked
 module _ (ws : List ℕ) {n p : ℕ} (x y : ℕ) {s : Tile} (O : InOrderTo ws n) (e : Past x y s) (P : PlaceOf ws n s p) where
@@ -113,9 +127,30 @@ module _ {ws : List ℕ} {n p j : ℕ} (x y : ℕ) {s : Tile} (S : Sorted ws n) 
           (λ (a : y ≤ (tile_of ws m).bottom). high m u H a)
           (lt_or_ge (tile_of ws m).bottom y)
 
+-- a tile that holds the square is found
+pub holder_sought : {ws : List ℕ} {n k x y : ℕ} → Holder ws n k x y → Sought ws 0 n x y k
+holder_sought H = record { most = omega (arith, H.counted); held = λ v. H.held; none = λ v. absurd (omega (arith, H.counted)) }
+
 -- ---- answers of tests, at a tile that was read
 pub said_yes : (P : Tile → Type 0) {s t : Tile} {b : Bool} → Says b (P s) → s ≡ t → b ≡ true → P t
 said_yes P {s} {t} {b} h e f = subst P e (rw f at h)
 
 pub said_no_lem : (P : Tile → Type 0) {s t : Tile} {b : Bool} → Says b (P s) → s ≡ t → b ≡ false → P t → ⊥
 said_no_lem P {s} {t} {b} h e f p = (rw f at h) (subst P (sym e) p)
+
+-- the answer for the tile is the answer for its number
+pub holder_is : (ws : List ℕ) (n k x y : ℕ) {t : Tile} (b : Bool) → k < n → Says b (Holds t x y) → t ≡ tile_of ws k → Says b (Holder ws n k x y)
+holder_is ws n k x y {t} true u h e = record { counted = u; held = subst (λ (z : Tile). Holds z x y) e h }
+holder_is ws n k x y {t} false u h e = λ H. h (subst (λ (z : Tile). Holds z x y) (sym e) H.held)
+
+-- and so is that for the square under
+pub under_is : (ws : List ℕ) (n k x y : ℕ) (b : Bool) → 0 < y → Says b (Holder ws n k x (y - 1)) → Says b (Under ws n k x y)
+under_is ws n k x y true u h = record { some = u; holder = h }
+under_is ws n k x y false u h = λ U. h U.holder
+
+-- ---- a scan, upward and downward: none so far, and not this one
+pub free_more : {P : ℕ → Type 0} {i j : ℕ} → ((k : ℕ) → i ≤ k → k < j → P k → ⊥) → (P j → ⊥) → (k : ℕ) → i ≤ k → k < j + 1 → P k → ⊥
+free_more {P} {i} {j} f g k u v p = ⊎_elim (λ (o : k < j). f k u o p) (λ (o : j ≤ k). let e : k ≡ j = omega arith in g (subst P e p)) (lt_or_ge k j)
+
+pub free_less : {P : ℕ → Type 0} {i j m : ℕ} → ((k : ℕ) → j ≤ k → k < i → P k → ⊥) → j ≡ m + 1 → (P m → ⊥) → (k : ℕ) → m ≤ k → k < i → P k → ⊥
+free_less {P} {i} {j} {m} f q g k u v p = ⊎_elim (λ (o : m < k). f k (omega arith) v p) (λ (o : k ≤ m). let e : k ≡ m = omega arith in g (subst P e p)) (lt_or_ge m k)

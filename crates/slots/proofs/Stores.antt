@@ -1,4 +1,4 @@
--- The words of a slice: one store, the five of a tile, and tiles put behind others. No picture is named here.
+-- The words of a slice: one store, the five of a tile, tiles moved up, and tiles put behind others. No picture is named here.
 use Prim.Native.Nat.{ℕ, ◌+◌, ◌*◌, ◌≤◌, ◌<◌}
 use native.Mathlib.Omega.{arith}
 use mathlib.Core.Path.{◌≡◌, refl, ◌∙◌, ap}
@@ -8,7 +8,7 @@ use lib.ListN.{length, get_or, set, length-set}
 use lib.Seq.{get_or-set_same, get_or-set_other}
 use Rattle.plane.specs.declared.tile.Tile.{Tile}
 use Rattle.plane.specs.Words.{tile_of}
-use Rattle.slots.specs.Slots.{Appended, PutTile}
+use Rattle.slots.specs.Slots.{Appended, PutTile, ShiftedUp}
 use Rattle.plane.proofs.Basics.{lt_or_ge}
 
 -- ---- one store
@@ -91,6 +91,20 @@ module _ (ws : List ℕ) (i : ℕ) (t : Tile) (h : 4 + 9 * i + 9 ≤ length ws) 
     old = λ j u. tile_agree l₅ ws j j (λ k v. away (4 + 9 * j + k) (⊎_elim (λ (o : j < i). inl (omega arith)) (λ (o : i ≤ j). inr (omega arith)) (lt_or_ge j i)));
   }
 
+-- ---- tiles moved up
+pub shift_none : (ws : List ℕ) (f : ℕ) → ShiftedUp ws ws f f
+shift_none ws f = record { long = refl; moved = λ j u v. absurd (omega arith); kept = λ j u. refl }
+
+pub shift_more : {ws us vs : List ℕ} {i j f : ℕ} {t : Tile} → ShiftedUp ws us j f → j ≡ i + 1 → t ≡ tile_of us i → PutTile us vs (i + 1) t → ShiftedUp ws vs i f
+shift_more {i = i} S e r P = record {
+  long = P.long ∙ S.long;
+  moved = λ m u v. ⊎_elim
+      (λ (o : i < m). P.old (m + 1) (λ q. omega arith) ∙ S.moved m (omega arith) v)
+      (λ (o : m ≤ i). let q : m ≡ i = omega arith in rw q (P.new ∙ (r ∙ S.kept i (omega arith))))
+      (lt_or_ge i m);
+  kept = λ m u. P.old m (λ q. omega arith) ∙ S.kept m (omega arith);
+}
+
 -- ---- tiles put behind others, word by word: the words of ws up to i stand at the words up to k
 pub record AppendedTo (ws : List ℕ) (j n : ℕ) (us : List ℕ) (m : ℕ) (vs : List ℕ) (i k : ℕ) : Type 0 where
   pub long : length vs ≡ length us
@@ -99,6 +113,22 @@ pub record AppendedTo (ws : List ℕ) (j n : ℕ) (us : List ℕ) (m : ℕ) (vs 
   pub place : k + 9 * j ≡ i + 9 * m
   pub new : (p : ℕ) → 4 + 9 * j + p < i → get_or vs (4 + 9 * m + p) 0 ≡ get_or ws (4 + 9 * j + p) 0
   pub old : (p : ℕ) → p < 4 + 9 * m → get_or vs p 0 ≡ get_or us p 0
+
+pub append_none : (ws us : List ℕ) {j n : ℕ} (m : ℕ) → j ≤ n → AppendedTo ws j n us m us (4 + 9 * j) (4 + 9 * m)
+append_none ws us m u = record { long = refl; begun = omega arith; most = omega arith; place = omega arith; new = λ p v. absurd (omega arith); old = λ p v. refl }
+
+pub append_more : {ws us vs : List ℕ} {j n m i k : ℕ} → AppendedTo ws j n us m vs i k → i < 4 + 9 * n → k < length vs → AppendedTo ws j n us m (set vs k (get_or ws i 0)) (i + 1) (k + 1)
+append_more {ws} {us} {vs} {j} {n} {m} {i} {k} A u h = record {
+  long = length-set vs k (get_or ws i 0) ∙ A.long;
+  begun = omega (arith, A.begun);
+  most = omega arith;
+  place = omega (arith, A.place);
+  new = λ p v. ⊎_elim
+      (λ (o : 4 + 9 * j + p < i). store_miss vs k (4 + 9 * m + p) _ (λ e. omega (arith, A.place)) ∙ A.new p o)
+      (λ (o : i ≤ 4 + 9 * j + p). let e : i ≡ 4 + 9 * j + p = omega arith in store_hit vs k (4 + 9 * m + p) _ (omega (arith, A.place)) h ∙ ap (λ (z : ℕ). get_or ws z 0) e)
+      (lt_or_ge (4 + 9 * j + p) i);
+  old = λ p v. store_miss vs k p _ (λ e. omega (arith, A.place, A.begun)) ∙ A.old p v;
+}
 
 pub append_done : {ws us vs : List ℕ} {j n m i k : ℕ} → AppendedTo ws j n us m vs i k → 4 + 9 * n ≤ i → Appended ws j n us m vs
 append_done {ws} {us} {vs} {j} {n} {m} A u = record {

@@ -3,7 +3,6 @@ use Prim.Native.Nat.{ℕ, suc, ◌+◌, ◌-◌, ◌*◌, ◌≤◌, ◌<◌, mi
 use native.Mathlib.Omega.{arith}
 use mathlib.Core.Path.{◌≡◌, sym, ◌∙◌, ap, subst}
 use mathlib.Core.Logic.{inl, ⊎_elim}
-use mathlib.Core.List.Memᴰ
 use mathlib.Core.List.{List, ◌++◌}
 use lib.ListN.{length, length-append}
 use Rattle.plane.specs.declared.tile.Tile.{Tile}
@@ -20,6 +19,7 @@ use Rattle.plane.proofs.Lists.{ordered_append}
 use Rattle.plane.proofs.Tiling.{strip_one, strips_are_tiles, tiles_strips}
 use Rattle.strips.proofs.Grows.{grown_covered, grown_has}
 use Rattle.strips.proofs.Stays.{after_agrees, agree_back, apart_strip, high_number, holds_at, keep_apart, kept_low, low_number, own_corner, strip_at_lem}
+use mathlib.Core.List.Memᴰ
 
 -- the tiles of a table from j on
 abbrev tile_from : List ℕ → ℕ → ℕ → Tile
@@ -113,6 +113,12 @@ kept_working L K u v = record { few = omega (arith, K.few, L.most); long = v; pa
 
 pub kept_under : {ws us : List ℕ} {b : Brush} {j k : ℕ} → Given ws b → LowTo ws b j → Kept ws b us j k → AllUnder us k (width ws) b.y1
 kept_under I L K i z u v = kept_low I L K i z u (omega (arith, I.brush)) v
+
+-- the three ends of the rebuild: no room for the zone's strips, none for the tiles that begin higher, and room for all
+module _ {ws us vs : List ℕ} {b : Brush} {j k m room : ℕ} (I : Given ws b) (L : LowTo ws b j) (K : Kept ws b us j k)
+    (C : CoversZone (width ws) (height ws) (goal ws b) room us k (b.x1 - 1) (min (b.x2 + 1) (width ws)) (min (b.y2 + 1) (height ws)) vs m) where
+  pub built_full : room < m → Built (width ws) (height ws) (goal ws b) room vs m
+  built_full u = record { full = C.full; built = λ v. absurd (omega arith) }
 
 -- the ends of the rebuild once the zone is covered: no room for the tiles that begin higher, and room for all
 module _ {ws us vs : List ℕ} {b : Brush} {j k m room : ℕ} (I : Given ws b) (L : LowTo ws b j) (K : Kept ws b us j k)

@@ -8,17 +8,26 @@ use lib.ListN.{length}
 use Rattle.plane.specs.declared.tile.Tile.{Tile}
 use Rattle.plane.specs.Picture.{Picture}
 use Rattle.plane.specs.Strips.{Holds, Strip}
+use Rattle.plane.specs.Words.{tile_of}
 use Rattle.strips.specs.declared.cover.Spot.{Spot}
 use Rattle.brush.specs.Brush.{Upward}
-use Rattle.strips.specs.Cover.{CoveredBy, Covers, CoversRow, Grown, RowUnder, SpotOf, Working}
+use Rattle.strips.specs.Cover.{AllUnder, CoveredBy, Covers, CoversRow, CoversZone, Grown, RowUnder, SpotOf, Working}
 use Rattle.slots.specs.Slots.{Sought, WithTile}
 use Rattle.plane.proofs.Basics.{lt_or_ge}
-use Rattle.strips.proofs.Grows.{grown_covered, grown_then, grown_with, new_strip, not_all}
+use Rattle.strips.proofs.Grows.{grown_covered, grown_same, grown_then, grown_with, new_strip, not_all}
 use Rattle.strips.proofs.Stays.{holds_at}
 
 -- ---- one square covered
 pub not_found : {ws : List ℕ} {n x y r : ℕ} → Sought ws 0 n x y r → n ≤ r → CoveredBy ws n x y → ⊥
 not_found F u d = F.none u d.0 (omega arith) d.1 d.2
+
+module _ {w h : ℕ} {q : Picture} {ws : List ℕ} {n room x y m : ℕ} {s : Tile} {r : Spot} (C : Working w h q ws n room) (e : SpotOf m s r) where
+  pub covers_found : {i : ℕ} → m ≡ n → Sought ws 0 n x y i → i < n → s ≡ tile_of ws i → Covers w h q room ws n x y ws r
+  covers_found {i} k F u o = record {
+    full = λ v. absurd (omega (arith, C.few));
+    grown = λ v. subst (λ (c : ℕ). Grown w h q (y + 1) ws n ws c) (sym (e.count ∙ k)) (grown_same C.part);
+    here = λ v. (i, omega arith, F.held u, e.right ∙ ap (λ (t : Tile). t.right) o, e.top ∙ ap (λ (t : Tile). t.top) o);
+  }
 
 module _ {w h : ℕ} {q : Picture} {ws : List ℕ} {n room x y m : ℕ} {s : Tile} {r : Spot} (C : Working w h q ws n room) (e : SpotOf m s r) where
   pub covers_new : {vs : List ℕ} → m ≡ n + 1 → n < room → Strip w h q s → Holds s x y → WithTile ws vs n s → Covers w h q room ws n x y vs r
@@ -50,6 +59,17 @@ pub record RowSoFar (w h : ℕ) (q : Picture) (room : ℕ) (ws : List ℕ) (n x 
   pub row : (i z : ℕ) → x ≤ i → i < r.right → y ≤ z → z < r.top → CoveredBy vs r.count i z
 
 module _ {w h : ℕ} {q : Picture} {room : ℕ} {ws : List ℕ} {n : ℕ} where
+  pub row_none : {x y : ℕ} {r : Spot} → Working w h q ws n room → r.count ≡ n → r.right ≡ x → r.top ≡ h → y < h → RowSoFar w h q room ws n x y ws r
+  row_none {x} {y} {r} C e f g o = record {
+    few = omega (arith, C.few);
+    grown = subst (λ (m : ℕ). Grown w h q (y + 1) ws n ws m) (sym e) (grown_same C.part);
+    on = omega arith;
+    up = omega arith;
+    top = omega arith;
+    row = λ i z b c. absurd (omega arith);
+  }
+
+module _ {w h : ℕ} {q : Picture} {room : ℕ} {ws : List ℕ} {n : ℕ} where
   module _ {x y : ℕ} {us vs : List ℕ} {r u : Spot} (R : RowSoFar w h q room ws n x y us r) (C : Covers w h q room us r.count r.right y vs u) where
     pub row_more : u.count ≤ room → {m : ℕ} → m ≡ min r.top u.top → RowSoFar w h q room ws n x y vs (record { count = u.count; right = u.right; top = m })
     row_more k {m} o =
@@ -68,6 +88,27 @@ module _ {w h : ℕ} {q : Picture} {room : ℕ} {ws : List ℕ} {n : ℕ} where
               (lt_or_ge i r.right);
         }
 
+    pub row_right : u.count ≤ room → r.right < u.right
+    row_right k = let d = C.here k in omega (arith, d.2, d.3)
+
+    pub row_full : {e : ℕ} → room < u.count → CoversRow w h q room ws n x e y vs (record { count = u.count; right = r.right; top = r.top })
+    row_full k = record {
+      full = C.full;
+      grown = λ v. absurd (omega arith);
+      up = R.up;
+      top = R.top;
+      row = λ v. absurd (omega arith);
+    }
+
+  pub row_done : {x e y : ℕ} {vs : List ℕ} {r : Spot} → RowSoFar w h q room ws n x y vs r → e ≤ r.right → CoversRow w h q room ws n x e y vs r
+  row_done R o = record {
+    full = λ v. absurd (omega (arith, R.few));
+    grown = λ v. R.grown;
+    up = R.up;
+    top = R.top;
+    row = λ v i z b c. R.row i z b (omega arith);
+  }
+
   pub row_working : {x y : ℕ} {vs : List ℕ} {r : Spot} → Working w h q ws n room → RowSoFar w h q room ws n x y vs r → length vs ≡ length ws → Working w h q vs r.count room
   row_working C R e = record { few = R.few; long = omega (arith, C.long); part = R.grown.part }
 
@@ -81,9 +122,25 @@ pub record ZoneSoFar (w h : ℕ) (q : Picture) (room : ℕ) (ws : List ℕ) (n x
   pub zone : (i z : ℕ) → x ≤ i → i < e → z < y → CoveredBy vs m i z
 
 module _ {w h : ℕ} {q : Picture} {room : ℕ} {ws : List ℕ} {n x e f : ℕ} where
+  pub zone_none : {y : ℕ} → Working w h q ws n room → AllUnder ws n w y → e ≤ w → ZoneSoFar w h q room ws n x e f y ws n
+  zone_none C g o = record { few = C.few; grown = grown_same C.part; zone = λ i z b c. g i z (omega arith) }
+
+  pub zone_working : {y m : ℕ} {vs : List ℕ} → Working w h q ws n room → ZoneSoFar w h q room ws n x e f y vs m → length vs ≡ length ws → Working w h q vs m room
+  zone_working C Z o = record { few = Z.few; long = omega (arith, C.long); part = Z.grown.part }
+
+  pub zone_under : {y m : ℕ} {vs : List ℕ} → ZoneSoFar w h q room ws n x e f y vs m → RowUnder vs m x e y
+  zone_under {y} Z i a b c = Z.zone i (y - 1) a b (omega arith)
+
+module _ {w h : ℕ} {q : Picture} {room : ℕ} {ws : List ℕ} {n x e f : ℕ} where
   pub zone_more : {y m : ℕ} {us vs : List ℕ} {r : Spot} → ZoneSoFar w h q room ws n x e f y us m → CoversRow w h q room us m x e y vs r → y < f → r.count ≤ room → ZoneSoFar w h q room ws n x e f r.top vs r.count
   zone_more {y} Z C o k = record {
     few = k;
     grown = grown_then Z.grown (C.grown k) (omega arith);
     zone = λ i z a b c. ⊎_elim (λ (v : z < y). grown_covered (C.grown k) i z (Z.zone i z a b v)) (λ (v : y ≤ z). C.row k i z a b v c) (lt_or_ge z y);
   }
+
+  pub zone_full : {y m x' e' : ℕ} {us vs : List ℕ} {r : Spot} → CoversRow w h q room us m x e y vs r → room < r.count → CoversZone w h q room ws n x' e' f vs r.count
+  zone_full C k = record { full = C.full; grown = λ v. absurd (omega arith); zone = λ v. absurd (omega arith) }
+
+  pub zone_done : {y m x' e' : ℕ} {vs : List ℕ} → ZoneSoFar w h q room ws n x e f y vs m → x ≤ x' → e' ≤ e → f ≤ y → CoversZone w h q room ws n x' e' f vs m
+  zone_done Z a b c = record { full = λ v. absurd (omega (arith, Z.few)); grown = λ v. Z.grown; zone = λ v i z k l o. Z.zone i z (omega arith) (omega arith) (omega arith) }

@@ -1,0 +1,2 @@
+-- The laws of the shared tiles.
+pub mod Alikes
