@@ -1,12 +1,12 @@
 // Turns: hear, take what came, say the replies; until the wire is closed.
 ghost use Rattle.std.specs.Prelude.{◌+◌, ◌≤◌, ◌<◌, ◌^◌, length};
 ghost use Rattle.lines.specs.Held.{store, Blank, Safe};
-ghost use Rattle.session.specs.Conversed.{Turned, Conversed};
+ghost use Rattle.session.specs.Conversed.{TurnedAt, ConversedAt};
 
 use crate::wire::{Wire, hear, is_open, say, unused};
-use std::io::{Read, Write};
 use lines::feed::{feed, finish};
 use lines::state::{State, started};
+use std::io::{Read, Write};
 
 // The state and the wire after a turn.
 #[derive(Clone, Copy)]
@@ -33,7 +33,8 @@ fn take_turn<R: Read, W: Write>(
     requires room { 40960 ≤ length out.old }
     requires ins { w.heard + 512 < 2 ^ 64 }
     requires outs { w.said + 40960 < 2 ^ 64 }
-    ensures { Turned s (store material.old errors.old waiting.old work.old rules.old) w result (store material.new errors.new waiting.new work.new rules.new) }
+    ensures { TurnedAt s (store material.old errors.old waiting.old work.old rules.old) w result (store material.new errors.new waiting.new work.new rules.new)
+        (R.remaining reader.old) (R.remaining reader.new) (W.contents writer.old) (W.contents writer.new) }
 {
     let mut buf = [0u8; 512];
     let h = hear(reader, &mut buf, w);
@@ -59,7 +60,7 @@ pub fn run<R: Read, W: Write>(
 ) -> Wire
     requires blank { Blank (store material.old errors.old waiting.old work.old rules.old) }
     requires room { 40960 ≤ length out.old }
-    ensures { Conversed result }
+    ensures { ConversedAt result (R.remaining reader.old) (R.remaining reader.new) (W.contents writer.old) (W.contents writer.new) }
 {
     let mut st = started();
     let mut w = unused();

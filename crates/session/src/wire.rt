@@ -1,18 +1,19 @@
 // The two ends of the wire: bytes are heard from a reader and said to a writer, and main takes standard input and standard output for them. No other file reads or writes.
 // Carried (specs/Wire) tells which bytes passed over a wire, and outside this file nothing proves it but the contracts of hear and say: a Wire's counts are private.
-// Where a contract knows the bytes of a reader or a writer, what was heard is what the reader lost (`taken`), and what was said is what the writer gained (`put`).
-// What is left to trust: that the reader and the writer of the system do the same, of whose bytes no contract of std speaks; and that each call is given the wire of the call
-// before it. A Wire is plain data, so this is to be read: take_turn and run (turn.rt), three calls.
+// What is heard is what the reader loses, and what is said is what the writer gains unless a write fails (`taken`, `put`), of each reader and writer whose bytes a contract knows.
+// So it is proved of run too, which calls each as often as it should. What is left to trust: that standard input and output do what they are asked, since no contract of std
+// speaks of their bytes.
 ghost use Rattle.std.specs.Prelude.{◌+◌, ◌<◌, ◌^◌, true, [], ◌≡◌, length, take};
 ghost use Rattle.std.specs.Io.KnownBytes.{Appends, Consumes};
 ghost use Rattle.session.specs.Wire.{Carried, Hears, Says};
 
 use std::io::{Read, Write};
 
-// Whether it is open, which it is until the input has ended or a write has failed, and how many bytes were heard and said.
+// Whether it is open: the input has not ended, and no write has failed. Whether it is whole: no write has failed. How many bytes were heard and said.
 #[derive(Clone, Copy)]
 pub struct Wire {
     open: bool,
+    whole: bool,
     heard: u64,
     said: u64,
 }
@@ -33,6 +34,7 @@ pub fn unused() -> Wire
 {
     Wire {
         open: true,
+        whole: true,
         heard: 0,
         said: 0,
     }
@@ -50,10 +52,12 @@ pub fn hear<R: Read>(reader: &mut R, buf: &mut [u8], w: Wire) -> Came
     requires count { w.heard + length buf.old < 2 ^ 64 }
     ensures hears { Hears w result buf.new }
     ensures taken { Consumes (R.remaining reader.old) (R.remaining reader.new) (take result.k buf.new) }
+    ensures whole { result.wire.whole ≡ w.whole }
 {
     let k = reader.read(buf).unwrap_or(0);
     let wire = Wire {
         open: w.open & (k != 0),
+        whole: w.whole,
         heard: w.heard + (k as u64),
         said: w.said,
     };
@@ -64,11 +68,12 @@ pub fn hear<R: Read>(reader: &mut R, buf: &mut [u8], w: Wire) -> Came
 pub fn say<W: Write>(writer: &mut W, bytes: &[u8], w: Wire) -> Wire
     requires { w.said + length bytes.now < 2 ^ 64 }
     ensures says { Says w bytes.now result }
-    ensures put { result.open ≡ true → Appends (W.contents writer.old) (W.contents writer.new) bytes.now }
+    ensures put { result.whole ≡ true → (w.whole ≡ true) × Appends (W.contents writer.old) (W.contents writer.new) bytes.now }
 {
     let written = writer.write_all(bytes).is_ok();
     Wire {
         open: w.open & written,
+        whole: w.whole & written,
         heard: w.heard,
         said: w.said + (bytes.len() as u64),
     }
