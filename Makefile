@@ -1,6 +1,6 @@
-# make try        builds the program without proving it, runs the specification's session and shows it: ten seconds
+# make try        builds the program without proving it, runs the specification's session and shows it
 # make demo       proves the program and runs the specification's session, input and output side by side
-# make test       the gate: layout of the sources, every proof from nothing, every must-fail edit, every program, the C tests
+# make test       the gate, .ci/run: every proof, every must-fail edit, the program, the C tests
 # make fmt        lays the sources out
 # make lib        build/liblayout.a with build/layout.h and build/layout.pc; make install PREFIX=/usr/local DESTDIR= puts them in place
 # make examples   builds the example editor in C, runs it and compares what it prints
@@ -8,6 +8,8 @@
 # make fuzz N=1000000 SEED=1    more calls and sessions; the seed of a difference is printed
 # make valgrind   some hundred calls and some sessions under valgrind
 # make bench ROUNDS=5    times the library, and Magic and KLayout where they are installed, on the same layouts, best of so many rounds; COUNT=1 counts instructions too
+#
+# The archive and the program are built of proved crates alone: rt lib and rt run prove what they build, over the work that earlier checks kept.
 
 .PHONY: try demo test fmt lib install examples check-c check-header check-session fuzz valgrind bench
 
@@ -18,49 +20,43 @@ SCRIPTS = 100
 N = 1000000
 SEED = 1
 ROUNDS = 5
-JOBS = 3
-SESSION = target/bin/session
+PROGRAM = crates/session/out/session
+SESSION = $(PROGRAM)
 STRICT = -std=c99 -Wall -Wextra -Wpedantic -Werror
 CFLAGS = -O2 -g
 
 NAIVE = build/naive_plane.o build/naive_rules.o build/naive_layout.o
-SOURCES := $(shell find $(addprefix crates/,plane vet ask slots brush strips shared stitches tables paint rules macros edges waits piece sheet drawing remark sweep checker layout) -name '*.rt' -o -name '*.antt')
+LIBRARY = plane vet ask slots brush strips shared stitches tables paint rules macros edges waits piece sheet drawing remark sweep checker layout
+sources = $(shell find $(1) -name out -prune -o \( -name '*.rt' -o -name '*.antt' \) -print)
 
 SIDE_BY_SIDE = paste crates/session/stdin - | awk -F '\t' '{ printf "%-24s %s\n", $$1, $$2 }'
 
 try:
 	@mkdir -p build
-	@rt try session > build/try.log 2>&1 || { cat build/try.log; exit 1; }
-	@cat crates/session/stdout | $(SIDE_BY_SIDE)
+	@cd crates/session && rt try < stdin > ../../build/try.out 2> ../../build/try.log || { cat ../../build/try.log; exit 1; }
+	@cat build/try.out | $(SIDE_BY_SIDE)
 
-demo:
-	@mkdir -p build
-	@rt check session > build/demo.log 2>&1 || { cat build/demo.log; exit 1; }
+demo: $(PROGRAM)
 	@bin/session < crates/session/stdin | $(SIDE_BY_SIDE)
 
-# A check writes the modules of the crates below its own to temporary files, up to 400 MB: to memory, where there is room.
-MEMORY := $(shell df --output=avail -BG /dev/shm 2>/dev/null | awk 'NR == 2 && $$1 + 0 >= 8 { print "TMPDIR=/dev/shm" }')
-
-# rt ci removes target/ and proves all, JOBS checks at a time: three keep two cores busy where one of two would wait for the other; six are slower.
-# The archive and the program are taken from what it leaves. Its last line is printed again at the end.
 test:
-	@rt fmt --check
-	@rm -rf build
+	@.ci/run
+
+# rt ci leaves the program there too, as LLVM built it.
+$(PROGRAM): $(call sources,crates) crates.txt
 	@mkdir -p build
-	@{ $(MEMORY) RT_JOBS=$(JOBS) rt ci; echo $$? > build/ci.status; } 2>&1 | tee build/ci.log
-	@exit "$$(cat build/ci.status)"
-	@$(MAKE) --no-print-directory -s -j2 check-c valgrind
-	@tail -n 1 build/ci.log
+	@cd crates/session && rt run < /dev/null > ../../build/run.log 2>&1 || { cat ../../build/run.log; exit 1; }
+	@touch $@
 
 fmt:
-	@rt fmt
+	@for crate in crates/*/; do (cd "$$crate" && rt fmt) || exit 1; done
 
 lib: build/liblayout.a build/layout.h build/layout.pc
 
-build/liblayout.a: $(SOURCES) crates.txt
+build/liblayout.a: $(call sources,$(addprefix crates/,$(LIBRARY))) crates.txt
 	@mkdir -p build
-	@rt staticlib layout > build/staticlib.log 2>&1 || { cat build/staticlib.log; exit 1; }
-	@cp target/staticlib/liblayout.a $@
+	@cd crates/layout && rt lib > ../../build/lib.log 2>&1 || { cat ../../build/lib.log; exit 1; }
+	@cp crates/layout/out/liblayout.a $@
 
 build/layout.h: include/layout.h
 	@mkdir -p build
@@ -110,8 +106,7 @@ check-header:
 	else echo "header: no C++ compiler, not tried in C++"; fi
 	@echo "header: C99 and C++ without warnings"
 
-check-session: build/naive_session build/scripts
-	@[ -x $(SESSION) ] || { echo "session: no $(SESSION); run rt check session"; exit 1; }
+check-session: $(SESSION) build/naive_session build/scripts
 	@tests/session.sh $(SESSION) build $(SCRIPTS) $(SEED)
 
 check-c: lib examples build/worked build/compare check-session
@@ -119,11 +114,11 @@ check-c: lib examples build/worked build/compare check-session
 	@build/worked
 	@build/compare $(SEED) $(CASES)
 
-fuzz: lib build/compare build/naive_session build/scripts
+fuzz: lib build/compare $(SESSION) build/naive_session build/scripts
 	build/compare $(SEED) $(N)
 	@tests/session.sh $(SESSION) build $$(($(N) / 200)) $(SEED)
 
-valgrind: build/compare build/naive_session build/scripts
+valgrind: build/compare $(SESSION) build/scripts
 	@if ! command -v valgrind > /dev/null; then echo "valgrind: not installed (Debian package valgrind), skipped"; else \
 	valgrind -q --error-exitcode=1 build/compare $(SEED) 600 small > build/valgrind.out || { cat build/valgrind.out; exit 1; }; \
 	for i in 1 2 3 4 5; do build/scripts $$i | valgrind -q --error-exitcode=1 $(SESSION) > /dev/null || exit 1; done; \

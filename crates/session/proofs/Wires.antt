@@ -1,22 +1,14 @@
 -- What hear and say make of a wire: its counts go up by as many bytes as its log gains.
-use Prim.Native.Nat.{ℕ, ◌+◌, ◌<◌, ◌≤◌}
-use native.Mathlib.Omega.{arith}
-use mathlib.Core.Bool.{Bool, true, not, ◌&&◌}
-use mathlib.Core.Path.{◌≡◌, refl, sym, ap}
-use mathlib.Core.List.{List}
-use lib.Dec.{eqb}
-use lib.ListN.{length, take}
-use lib.Seq.{length-take-le}
-use borrow.Author.Tests.{eqb-false, not-true}
-use Rattle.plane.proofs.Basics.{and_left, and_right}
+use Rattle.std.proofs.Common.{ℕ, ◌+◌, ◌<◌, ◌≤◌, Bool, true, not, ◌&&◌, ◌≡◌, refl, sym, ap, List, length, take, nat_eq, length-take-le, arith}
+use Rattle.plane.proofs.Basics.{and_left}
 use Rattle.session.specs.declared.wire.Wire.{Wire}
 use Rattle.session.specs.Wire.{Hears, Says, carried_heard, carried_said}
 
 -- a test `b and not zero` that holds
-pub some_left : (b : Bool) (n : ℕ) → (b && not (eqb n 0)) ≡ true → 0 < n
-some_left b n e = let z = eqb-false n 0 (not-true (eqb n 0) (and_right b (not (eqb n 0)) e)) in omega (arith, z)
+pub some_left : (b : Bool) (n : ℕ) → (b && not (nat_eq n 0)) ≡ true → 0 < n
+some_left b n e = grind arith
 
-pub hears : (w : Wire) (k : ℕ) (buf : List ℕ) → k ≤ length buf → Hears w (record { wire = record { heard = w.heard + k; said = w.said; «open» = w.open && not (eqb k 0) }; k = k }) buf
+pub hears : (w : Wire) (k : ℕ) (buf : List ℕ) → k ≤ length buf → Hears w (record { wire = record { heard = w.heard + k; said = w.said; «open» = w.open && not (nat_eq k 0); whole = w.whole }; k = k }) buf
 hears w k buf h = record {
   within = h;
   some = some_left w.open k;
@@ -25,7 +17,7 @@ hears w k buf h = record {
   passed = λ log C. carried_heard (take k buf) (ap (λ (n : ℕ). w.heard + n) (sym (length-take-le k buf h))) refl C;
 }
 
-pub says : (w : Wire) (bytes : List ℕ) (taken : Bool) → Says w bytes (record { heard = w.heard; said = w.said + length bytes; «open» = w.open && taken })
+pub says : (w : Wire) (bytes : List ℕ) (taken : Bool) → Says w bytes (record { heard = w.heard; said = w.said + length bytes; «open» = w.open && taken; whole = w.whole && taken })
 says w bytes taken = record {
   was = and_left w.open taken;
   ins = omega arith;

@@ -1,9 +1,6 @@
 -- What passes over the wire between the program and its user: a log of the bytes heard and said, and which log a wire has carried.
-use Rattle.std.specs.Prelude.{ℕ, ◌+◌, ◌≤◌, ◌<◌, true, ◌≡◌, refl, take}
-use Rattle.std.proofs.Math.Path.{sym, ap}
-use Rattle.std.proofs.Common.{◌∙◌}
-use mathlib.Core.List.{List, [], ◌∷◌, ◌++◌, append-nil, append_assoc}
-use Rattle.std.proofs.Math.ListN.{length, length-append}
+use Rattle.std.specs.Prelude.{ℕ, ◌+◌, ◌≤◌, ◌<◌, true, ◌≡◌, refl, List, [], ◌∷◌, ◌++◌, length, take}
+use Rattle.std.proofs.Common.{sym, ap, ◌∙◌, append-nil, append_assoc, length-append}
 use Rattle.session.specs.declared.wire.Came.{Came}
 use Rattle.session.specs.declared.wire.Wire.{Wire}
 

@@ -1,20 +1,25 @@
-// The two ends of the wire: bytes are heard from standard input and said on standard output. No other file calls libc or io.
+// The two ends of the wire: bytes are heard from a reader and said to a writer, and main takes standard input and standard output for them. No other file reads or writes.
 // Carried (specs/Wire) tells which bytes passed over a wire, and outside this file nothing proves it but the contracts of hear and say: a Wire's counts are private.
-// What is left to trust: that read puts the next bytes of the input at the start of buf and that write puts out what it is handed, which no contract of libc says; the first
-// lines of hear and say, which call them; and that each call is given the wire of the call before it. A Wire is plain data, so this is to be read: take_turn and run (turn.rt), three calls.
-ghost use Rattle.std.specs.Prelude.{◌+◌, ◌<◌, ◌^◌, true, [], ◌≡◌, length};
+// What is heard is what the reader loses, and what is said is what the writer gains unless a write fails (`taken`, `put`), of each reader and writer whose bytes a contract knows.
+// So it is proved of run too, which calls each as often as it should. What is left to trust: that standard input and output do what they are asked, since no contract of std
+// speaks of their bytes.
+ghost use Rattle.std.specs.Prelude.{◌+◌, ◌<◌, ◌^◌, true, [], ◌≡◌, length, take};
+ghost use Rattle.std.specs.Io.KnownBytes.{Appends, Consumes};
 ghost use Rattle.session.specs.Wire.{Carried, Hears, Says};
 
-// How many bytes were heard and said, and whether it is open: the input has not ended, and no write has failed.
-#[derive(Drop)]
+use std::io::{Read, Write};
+
+// Whether it is open: the input has not ended, and no write has failed. Whether it is whole: no write has failed. How many bytes were heard and said.
+#[derive(Clone, Copy)]
 pub struct Wire {
+    open: bool,
+    whole: bool,
     heard: u64,
     said: u64,
-    open: bool,
 }
 
 // The wire after a read, and how many bytes came.
-#[derive(Drop)]
+#[derive(Clone, Copy)]
 pub struct Came {
     pub wire: Wire,
     pub k: usize,
@@ -22,12 +27,16 @@ pub struct Came {
 
 // Nothing has passed.
 pub fn unused() -> Wire
-    ensures { (result.heard ≡ 0) × (result.said ≡ 0) × (result.open ≡ true) × Carried result [] }
+    ensures heard { result.heard ≡ 0 }
+    ensures said { result.said ≡ 0 }
+    ensures is_open { result.open ≡ true }
+    ensures carried { Carried result [] }
 {
     Wire {
+        open: true,
+        whole: true,
         heard: 0,
         said: 0,
-        open: true,
     }
 }
 
@@ -37,30 +46,35 @@ pub fn is_open(w: Wire) -> bool
     w.open
 }
 
-// Reads once, to the start of `buf`.
-pub fn hear(buf: &mut [u8], w: Wire) -> Came
-    requires { (0 < length buf.old) × (w.heard + length buf.old < 2 ^ 64) }
-    ensures { Hears w result buf.new }
+// Reads once, to the start of `buf`. A read that fails is the end of the input.
+pub fn hear<R: Read>(reader: &mut R, buf: &mut [u8], w: Wire) -> Came
+    requires room { 0 < length buf.old }
+    requires count { w.heard + length buf.old < 2 ^ 64 }
+    ensures hears { Hears w result buf.new }
+    ensures taken { Consumes (R.remaining reader.old) (R.remaining reader.new) (take result.k buf.new) }
+    ensures whole { result.wire.whole ≡ w.whole }
 {
-    let got = libc::read(0, buf);
-    let k = io::count(got, buf);
+    let k = reader.read(buf).unwrap_or(0);
     let wire = Wire {
+        open: w.open & (k != 0),
+        whole: w.whole,
         heard: w.heard + (k as u64),
         said: w.said,
-        open: w.open & (k != 0),
     };
     Came { wire, k }
 }
 
 // Writes bytes. A write that fails closes the wire.
-pub fn say(bytes: &[u8], w: Wire) -> Wire
+pub fn say<W: Write>(writer: &mut W, bytes: &[u8], w: Wire) -> Wire
     requires { w.said + length bytes.now < 2 ^ 64 }
-    ensures { Says w bytes.now result }
+    ensures says { Says w bytes.now result }
+    ensures put { result.whole ≡ true → (w.whole ≡ true) × Appends (W.contents writer.old) (W.contents writer.new) bytes.now }
 {
-    let taken = io::write_all(1, bytes);
+    let written = writer.write_all(bytes).is_ok();
     Wire {
+        open: w.open & written,
+        whole: w.whole & written,
         heard: w.heard,
         said: w.said + (bytes.len() as u64),
-        open: w.open & taken,
     }
 }
