@@ -6,9 +6,9 @@ use mathlib.Core.Logic.{⊎_elim}
 use mathlib.Core.List.{List}
 use Rattle.plane.specs.declared.tile.Tile.{Tile}
 use Rattle.plane.specs.Picture.{before}
-use Rattle.plane.specs.Plane.{Link, Names}
+use Rattle.plane.specs.Plane.{Link, Names, Stitched}
 use Rattle.plane.specs.Strips.{Holds}
-use Rattle.plane.specs.Words.{tile_of}
+use Rattle.plane.specs.Words.{tile_of, word}
 use Rattle.shared.specs.declared.shared.Shared.{Shared}
 use Rattle.shared.specs.declared.shared.Links.{Links}
 use Rattle.stitches.specs.Restitch.{AllKnown, KnownLinks, LinksIn}
@@ -31,7 +31,10 @@ alike_still A S = record {
   last = λ i j u v e. S.tile j ∙ A.last i j u v e;
 }
 
--- ---- the stitches of a tile are those of another tile that is the same
+-- ---- the stitches of a table's tile, and of another tile that is the same
+pub links_in : {ws : List ℕ} {i : ℕ} (l : Links) → Stitched ws i → l.lb ≡ word ws i 5 → l.bl ≡ word ws i 6 → l.tr ≡ word ws i 7 → l.rt ≡ word ws i 8 → LinksIn ws (tile_of ws i) l
+links_in l S a b c d = record { lb = rw a S.lb; bl = rw b S.bl; tr = rw c S.tr; rt = rw d S.rt }
+
 pub links_like : {ws : List ℕ} {s t : Tile} {l : Links} → t ≡ s → LinksIn ws s l → LinksIn ws t l
 links_like {ws} {s} {t} {l} e L = subst (λ (z : Tile). LinksIn ws z l) (sym e) L
 
@@ -83,3 +86,10 @@ module _ {ws : List ℕ} {n w h : ℕ} (T : Tight ws n w h) where
   -- four numbers that are known are the stitches
   pub links_all : {t : Tile} {l : Links} → KnownLinks ws n t l → AllKnown l → LinksOf ws n t l
   links_all {t} {l} K A = links_are ws n t l (under_number (K.lb A.lb)) (beside_number t.left t.bottom (K.bl A.bl)) (holder_number (K.tr A.tr)) (holder_number (K.rt A.rt))
+
+-- ---- what is known of a tile, and of the same tile when it is read
+pub known_read : {ws : List ℕ} {n : ℕ} {s t : Tile} {l : Links} → s ≡ t → KnownLinks ws n t l → KnownLinks ws n s l
+known_read {ws} {n} {s} {t} {l} e K = subst (λ (z : Tile). KnownLinks ws n z l) (sym e) K
+
+pub links_read : {ws : List ℕ} {n : ℕ} {s t : Tile} {l : Links} → s ≡ t → LinksOf ws n s l → LinksOf ws n t l
+links_read {ws} {n} {s} {t} {l} e L = subst (λ (z : Tile). LinksOf ws n z l) e L
