@@ -1,5 +1,5 @@
 -- Turn after turn: what has passed over the wire is the exchanges of the chunks so far, and they have led to the state.
-use Prim.Native.Nat.{ℕ, ◌+◌, ◌-◌, ◌*◌, ◌^◌, ◌≤◌}
+use Prim.Native.Nat.{ℕ, ◌+◌, ◌-◌, ◌*◌, ◌^◌, ◌<◌, ◌≤◌}
 use native.Mathlib.Omega.{arith}
 use mathlib.Core.Bool.{Bool, true, false, not, ◌&&◌}
 use mathlib.Core.Path.{◌≡◌, refl, sym, ap, subst, ◌∙◌}
@@ -27,10 +27,10 @@ use Rattle.session.proofs.Wires.{some_left}
 
 -- ---- one turn
 -- a chunk has at most 512 bytes, and the replies to its lines have at most 40960
-chunk_few : {w : Wire} {buf : List ℕ} (h : Came) → length buf ≡ 512 → Hears w h buf → length (take h.k buf) ≤ 512
+pub chunk_few : {w : Wire} {buf : List ℕ} (h : Came) → length buf ≡ 512 → Hears w h buf → length (take h.k buf) ≤ 512
 chunk_few {buf = buf} h l H = omega (arith, l, H.within, length-take-le h.k buf H.within)
 
-replies_few : {s r : State} {t t' : Store} {chunk out : List ℕ} {n : ℕ} → Took s t chunk r n t' out → length chunk ≤ 512 → length (take n out) ≤ 40960
+pub replies_few : {s r : State} {t t' : Store} {chunk out : List ℕ} {n : ℕ} → Took s t chunk r n t' out → length chunk ≤ 512 → length (take n out) ≤ 40960
 replies_few {out = out} {n = n} T few = omega (arith, few, T.most, length-take-le n out T.within)
 
 pub turned : {s r : State} {t t' : Store} {w w' : Wire} {buf out : List ℕ} {n : ℕ} (h : Came) → length buf ≡ 512 → Hears w h buf → Took s t (take h.k buf) r n t' out → Says h.wire (take n out) w'
@@ -135,6 +135,9 @@ running_at_on {left = left} {left'} {left''} {held = held} {held'} {held''} b r 
     }
 
 -- ---- the end
+pub last_fit : {room turns : ℕ} {st : State} {u : Store} {out : List ℕ} {w : Wire} (n : ℕ) (l : List ℕ) → Running room st u out w turns → n ≤ length l → n ≤ 80 → w.said + length (take n l) < 2 ^ 64
+last_fit n l A h few = omega (arith, A.outs, few, length-take-le n l h)
+
 -- a loop that could go on and does not has no turns left
 none_left : (b : Bool) (turns : ℕ) → (b && not (eqb turns 0)) ≡ false → b ≡ true → turns ≡ 0
 none_left b turns e o = eqb-true turns 0 (not-false (eqb turns 0) (ap (λ (x : Bool). x && not (eqb turns 0)) (sym o) ∙ e))
