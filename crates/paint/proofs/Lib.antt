@@ -1,4 +1,3 @@
 -- The laws of the calls, each file named after its subject.
-pub mod Calls
 pub mod Once
 pub mod Again
