@@ -5,7 +5,7 @@ use mathlib.Core.Path.{◌≡◌, ◌∙◌, ap}
 use mathlib.Core.List.{List}
 use lib.ListN.{length}
 use Rattle.plane.specs.declared.tile.Area.{Area}
-use Rattle.plane.specs.Picture.{table, space, tiles, painted}
+use Rattle.plane.specs.Picture.{space, tiles, painted}
 use Rattle.plane.specs.Words.{width, height, kinds, picture_of, room_in, InRange, PictureTable}
 use Rattle.plane.proofs.Lowests.{all_hold}
 use Rattle.tables.specs.Like.{HasRoom, painted_of, table_like}
