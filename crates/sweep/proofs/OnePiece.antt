@@ -1,13 +1,13 @@
 -- One piece: what the steps of its check are handed, what they make of errors and waiting, what the tables show then, and that a layout with room for it is fit again.
 use Prim.Native.Nat.{ℕ, ◌+◌, ◌*◌, ◌≤◌, ◌<◌}
 use native.Mathlib.Omega.{arith}
-use mathlib.Core.Bool.{Bool, true, false, not, cond, ◌&&◌}
+use mathlib.Core.Bool.{Bool, true, false, cond, ◌&&◌}
 use mathlib.Core.Path.{◌≡◌, refl, sym, ◌∙◌, ap, subst}
 use mathlib.Core.Logic.{⊎_elim}
 use mathlib.Core.List.{List}
 use lib.Dec.{leb}
 use lib.ListN.{length}
-use borrow.Author.Tests.{leb-true, le-leb, lt-leb, not-true, not-false}
+use borrow.Author.Tests.{leb-true, le-leb, lt-leb}
 use Rattle.plane.specs.declared.tile.Area.{Area}
 use Rattle.plane.specs.Area.{AreaIn}
 use Rattle.plane.specs.Picture.{Picture, painted, tiles}
@@ -120,10 +120,9 @@ module _ {l : Layout} {work rules : List ℕ} {used bx by : ℕ} (P : PieceIn l 
     errors_words e = E.leaves ∙ ap (λ (z : Bool). cond z (table_like l.errors (piece_errors l (rules_of rules used) (halo_of rules used) bx by)) l.errors) e
 
     -- they have none
-    pub piece_unmarked : not b ≡ true → PieceTried l rules used bx by false (lent l.material es l.waiting)
+    pub piece_unmarked : b ≡ false → PieceTried l rules used bx by false (lent l.material es l.waiting)
     unfolding piece_fits
-    piece_unmarked n =
-        let f = not-true b n in
+    piece_unmarked f =
         let a = errors_words f in
         record {
           fits = sym (no_first (leb (error_tiles l rules used bx by) (room l)) (leb (waiting_tiles l bx by) (room l)) (sym errors_fit ∙ f));
@@ -152,8 +151,8 @@ module _ {l : Layout} {work rules : List ℕ} {used bx by : ℕ} (P : PieceIn l 
           both false = refl
 
       -- they were marked, and the tiles of waiting were counted first
-      pub piece_checked : {c d : ℕ} → c ≡ room l → not b ≡ false → TilesAfter c l.waiting (piece_waiting l bx by) d → d ≤ c → PieceTried l rules used bx by r (lent l.material es qs)
-      piece_checked e n T u = piece_tried (not-false b n) (λ f. tf (sym (waiting_fits ∙ le-leb (waiting_tiles l bx by) (room l) (omega (arith, T.number u))) ∙ f))
+      pub piece_checked : {c d : ℕ} → c ≡ room l → b ≡ true → TilesAfter c l.waiting (piece_waiting l bx by) d → d ≤ c → PieceTried l rules used bx by r (lent l.material es qs)
+      piece_checked e n T u = piece_tried n (λ f. tf (sym (waiting_fits ∙ le-leb (waiting_tiles l bx by) (room l) (omega (arith, T.number u))) ∙ f))
 
   -- ---- afterwards
   -- the types of what a piece makes

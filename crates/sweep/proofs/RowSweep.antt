@@ -7,7 +7,7 @@ use mathlib.Core.Path.{◌≡◌, refl, sym, ◌∙◌, ap, subst}
 use mathlib.Core.Logic.{⊎_elim}
 use mathlib.Core.List.{List}
 use lib.ListN.{length}
-use borrow.Author.Tests.{le-leb, not-false}
+use borrow.Author.Tests.{le-leb}
 use Rattle.plane.specs.declared.tile.Area.{Area}
 use Rattle.plane.specs.Area.{AreaIn}
 use Rattle.plane.specs.Picture.{Picture, area, in_area, painted, table, tiles}
@@ -164,8 +164,8 @@ module _ {l : Layout} {work rules : List ℕ} {used bx by n : ℕ} (T : TurnIn l
 
         module _ {b : Bool} {es' : List ℕ} (E : Remade es (errors_near l.material es rules used c by) b es') (some : done < n) where
           -- it has no room
-          pub row_full : not b ≡ true → RowMarked l rules used by n done c (not b) es'
-          row_full g = subst (λ (z : Bool). RowMarked l rules used by n done c z es') (sym g) (record {
+          pub row_full : b ≡ false → RowMarked l rules used by n done c (not b) es'
+          row_full g = subst (λ (z : Bool). RowMarked l rules used by n done c z es') (sym (ap not g)) (record {
             turned = subst (λ (z : ℕ). Turned l rules used n z true (swept_to l es' c by)) (omega arith)
                 (turned_join {m = 1} came_to (omega arith) (turn_full came_to.fit next_lowest (omega arith) (piece_unmarked next_piece E g) refl));
             end = omega arith;
@@ -173,9 +173,9 @@ module _ {l : Layout} {work rules : List ℕ} {used bx by n : ℕ} (T : TurnIn l
           })
 
           -- it is done
-          pub row_more : not b ≡ false → SoFar l rules used bx by n e es' (done + 1) (c + 1)
+          pub row_more : b ≡ true → SoFar l rules used bx by n e es' (done + 1) (c + 1)
           row_more g =
-              let J = turned_join {m = 1} {n = n} came_to (omega arith) (turn_done came_to.fit next_lowest (omega arith) (piece_tried next_piece E (swept_on c es) (not-false b g) (λ z. tf z)) refl) in
+              let J = turned_join {m = 1} {n = n} came_to (omega arith) (turn_done came_to.fit next_lowest (omega arith) (piece_tried next_piece E (swept_on c es) g (λ z. tf z)) refl) in
               record { came = J.came; most = J.most; to = omega arith; through = omega (arith, S.through, N.from); first = λ z. absurd (omega arith) }
 
     -- ---- the row is cleared
