@@ -13,7 +13,7 @@ use Rattle.plane.specs.Plane.{Plane}
 use Rattle.plane.specs.Words.{InRange, IsTable, PictureTable, count, height, kinds, picture_of, room_in, tile_of, width}
 use Rattle.brush.specs.declared.brush.Brush.{Brush}
 use Rattle.strips.specs.Cover.{Built}
-use Rattle.brush.specs.Brush.{Given, Shown, after, brush_area, brush_tile, goal, inked}
+use Rattle.brush.specs.Brush.{Given, Shown, Small, after, brush_area, brush_tile, goal, inked}
 use Rattle.tables.specs.Like.{table_like}
 use Rattle.tables.specs.Tables.{FlatBrush, MayPaint, Paintable, PaintedOver, TilesAfter}
 use Rattle.plane.proofs.Basics.{bool_cases, lt_or_ge, tf}
@@ -112,6 +112,11 @@ after_types {ws = ws} {b = b} M x y u v = ⊎_elim
 
 -- ---- what the rebuild makes: too many tiles, or a table
 module _ {c r : ℕ} {ws us : List ℕ} {b : Brush} (M : MayPaint c ws b) (B : Built (width ws) (height ws) (goal ws b) c us r) where
+  pub painted_full : c < r → PaintedOver c ws (goal ws b) ws r
+  painted_full u = record { number = λ v. absurd (omega arith); full = B.full; done = λ v. absurd (omega arith); stays = λ v. refl; sound = M.table }
+
+-- ---- what the rebuild makes: too many tiles, or a table
+module _ {c r : ℕ} {ws us : List ℕ} {b : Brush} (M : MayPaint c ws b) (B : Built (width ws) (height ws) (goal ws b) c us r) where
   pub painted_done : {vs : List ℕ} → r ≤ c → vs ≡ table c (width ws) (height ws) (kinds ws) (goal ws b) → PaintedOver c ws (goal ws b) vs r
   painted_done {vs} u e = record {
     number = λ v. built_number B v;
@@ -143,6 +148,9 @@ area_may {c} {kind} {ws} P k F = flat_may (subst (λ (d : Area). Paintable c ws 
 pub after_flat : {kind : ℕ} (ws : List ℕ) {a : Area} {b : Brush} → FlatBrush a kind b → goal ws b ≡ painted (picture_of ws) a kind
 after_flat {kind} ws {a} {b} F = after_painted (picture_of ws) b F.one
     ∙ (ap {B = Picture} (λ (d : Area). painted (picture_of ws) d b.kind) F.area ∙ ap {B = Picture} (painted (picture_of ws) a) F.type)
+
+pub bits_may : {c : ℕ} {ws : List ℕ} {b : Brush} → Paintable c ws (brush_area b) → Small (brush_area b) → b.bits ≡ true → MayPaint c ws b
+bits_may P s e = record { table = P.table; small = P.small; brush = record { area = P.area; small = λ t. s }; type = λ t. tf (sym e ∙ t) }
 
 pub painted_as : {c r : ℕ} {ws vs : List ℕ} {q s : Picture} → q ≡ s → PaintedOver c ws q vs r → PaintedOver c ws s vs r
 painted_as {c} {r} {ws} {vs} e P = subst (λ (p : Picture). PaintedOver c ws p vs r) e P
