@@ -23,11 +23,12 @@ use Rattle.rules.specs.Words.{rules_of, rule_words}
 use Rattle.sheet.specs.Layout.{Layout}
 use Rattle.replies.specs.declared.reply.Reply.TheVariants as reply
 use Rattle.desk.specs.declared.state.Desk.{Desk}
+use Rattle.desk.specs.declared.state.Answered.{Answered}
 use Rattle.desk.specs.Kept.{model_of, Kept, Comes, said_ok, said_no, took_macro}
 use Rattle.desk.specs.Model.{said, added}
 use Rattle.desk.specs.Tests.{first_no}
 use Rattle.desk.proofs.Decides.{Decides, decided, passed, test_is, leb_is}
-use Rattle.desk.proofs.Draws.{list_length}
+use Rattle.desk.proofs.Draws.{list_length, comes_as}
 use Rattle.desk.proofs.RuleLists.{SoundFor, rules_length, appended_stay, appended_rules, put_appended, sound_with}
 
 -- the tests of a command that adds rules: within their ranges, room for them, and no paint yet
@@ -104,6 +105,10 @@ module _ {d : Desk} {l : Layout} {work ws : List ℕ} (r : Rule) (line : ℕ) (K
   rule_full ok e u =
       let f : fits ws d.used (r ∷ []) ≡ false = lt-leb (length (rules_of ws d.used) + 1) 512 (omega (arith, few)) in
       added_no ws ok (r ∷ []) line K K.list 7 (omega arith) (ap₂ (λ (a b : Bool). first_no (add_tests a b (not d.painted))) e f) refl
+
+  -- the same, of what a refusal answers, as the check looks for it
+  pub full_comes : {s : Answered} → s ≡ said_no d 7 line → (ok : Bool) → ok ≡ true → 512 ≤ d.used → Comes (added (model_of d l ws) line ok (r ∷ [])) s l work ws
+  full_comes e ok o u = comes_as e (rule_full ok o u)
 
   room : d.used < 512 → fits ws d.used (r ∷ []) ≡ true
   room u = le-leb (length (rules_of ws d.used) + 1) 512 (omega (arith, few))

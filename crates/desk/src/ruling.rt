@@ -14,6 +14,7 @@ use plane::answer::refusal_number;
 use rules::rule::{Rule, is_sound};
 
 // rule: one rule put behind the used ones.
+#[tactic(auto, using(crate::proofs::Rulings::full_comes))]
 fn add_rule(rules: &mut [u16], d: Desk, line: u64, t: u16, r: Rule) -> Answered
     requires { (t ≤ 16) × (length rules.old ≡ 4096) }
     ensures { (l : Layout) (work : List ℕ) → Kept d l work rules.old → kinds l.material ≡ t → Comes (added (model_of d l rules.old) line (sound t r) (r ∷ [])) result l work rules.new }
