@@ -13,7 +13,7 @@ use Rattle.macros.specs.Expansion.{macro_refusals, Expanded}
 use Rattle.drawing.specs.Create.{create_refusals, Created}
 use Rattle.sheet.specs.Layout.{Layout}
 use Rattle.drawing.specs.Paint.{paint_refusals, Painted}
-use Rattle.sheet.specs.Report.{settled, Findings, report_refusals, Reported}
+use Rattle.sheet.specs.Report.{Findings, report_refusals, Reported}
 use Rattle.checker.specs.Check.{Checked}
 use Rattle.layout.specs.Pack.{bits, pack_report, Narrow, ReportPacked, PointPacked, MacroPacked, CheckPacked, NarrowCheck, pack_check}
 use Rattle.layout.proofs.Ranges.{lowest_within, report_narrow, point_few, macro_few, check_narrow}
