@@ -6,8 +6,6 @@ use mathlib.Core.Path.{◌≡◌, refl, sym, ◌∙◌, ap, subst}
 use mathlib.Core.List.{List, [], ◌∷◌}
 use lib.ListN.{length}
 use lib.Dec.{leb}
-use types.Run.{OneOf, miss}
-use denote.Enum.Declared.{tag_of}
 use borrow.Author.Tests.{le-leb}
 use Rattle.plane.specs.declared.tile.Area.{Area}
 use Rattle.plane.specs.Area.{AreaIn, tiles_in}
@@ -28,7 +26,6 @@ use Rattle.sheet.specs.Layout.{Layout, RuleLength, IsLayout}
 use Rattle.sheet.specs.Ready.{Fit}
 use Rattle.sheet.specs.Report.{Findings, Reported, findings}
 use Rattle.checker.proofs.CheckStays.{run_fit}
-use Rattle.sheet.specs.contracts.report.ReportAnswer as Tags
 use Rattle.replies.specs.declared.reply.Reply.{Reply}
 use Rattle.replies.specs.declared.reply.Reply.TheVariants as reply
 use Rattle.desk.specs.declared.state.Desk.{Desk}
@@ -98,14 +95,14 @@ module _ {d : Desk} {l : Layout} {work ws : List ℕ} (a : Area) (out : List ℕ
       let Q = subst (λ (x : ReportAnswer). Reported l ws d.used a out (report_number x) place (found_by x after)) e R in
       found inside (reply.Report s q n) (found_reply (findings l (halo (rules_of ws d.used)) a [])) (reply.No 6 line) (omega arith) (report_number_lem Q) (ap found_reply Q.outcome.leaves ∙ ap (λ (k : ℕ). found_reply (findings l k a [])) (halo_is ws d.used))
 
-  positive : (r : ReportAnswer) → OneOf (1 ∷ 2 ∷ 3 ∷ 4 ∷ 5 ∷ []) (tag_of Tags.the_type r) → 0 < report_number r
-  positive (Found s q n) o = absurd (miss (1 ∷ 2 ∷ 3 ∷ 4 ∷ 5 ∷ []) 0 tt o)
+  positive : (r : ReportAnswer) → ((s q n : ℕ) → r ≡ Found s q n → ⊥) → 0 < report_number r
+  positive (Found s q n) o = absurd (o s q n refl)
   positive Lengths o = omega arith
   positive NoTable o = omega arith
   positive (BadRule i) o = omega arith
   positive NoPlace o = omega arith
   positive Full o = omega arith
 
-  pub report_none : {place : ℕ} {f : Findings} (line : ℕ) (r : ReportAnswer) → OneOf (1 ∷ 2 ∷ 3 ∷ 4 ∷ 5 ∷ []) (tag_of Tags.the_type r) → Reported l ws d.used a out (report_number r) place f → reply.No 6 line ≡ reported_on (model_of d l ws) line a
+  pub report_none : {place : ℕ} {f : Findings} (line : ℕ) (r : ReportAnswer) → ((s q n : ℕ) → r ≡ Found s q n → ⊥) → Reported l ws d.used a out (report_number r) place f → reply.No 6 line ≡ reported_on (model_of d l ws) line a
   unfolding reported_on
   report_none line r o R = none inside (found_reply (findings l (halo (rules_of ws d.used)) a [])) (reply.No 6 line) (positive r o) (report_number_lem R)
