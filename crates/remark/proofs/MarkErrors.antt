@@ -147,3 +147,10 @@ module _ {ms es work rules : List ℕ} {used bx by : ℕ} (P : MarkIn ms es work
     -- where the errors show its rows already, they stay
     pub errors_stay : ShowsRows (picture_of es) a rows → Remade es (errors_near ms es rules used bx by) true es
     errors_stay S = as_errors (agree_to (λ x y u v. sym (shown_stamped (picture_of es) a rows S x y)) (itself P.marks.table))
+
+    -- the same of the words and of the room, with the test as a premise, as `remark` looks for them
+    pub kept_words : {b : Bool} → (b ≡ true → ShowsRows (picture_of es) a rows) → b ≡ true → table_like es (errors_near ms es rules used bx by) ≡ es
+    kept_words S t = sym (errors_stay (S t)).leaves
+
+    pub kept_room : {b : Bool} → (b ≡ true → ShowsRows (picture_of es) a rows) → b ≡ true → leb (length (tiles (width es) (height es) (errors_near ms es rules used bx by))) (room_in (length es)) ≡ true
+    kept_room S t = sym (errors_stay (S t)).fits

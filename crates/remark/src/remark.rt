@@ -54,6 +54,7 @@ pub fn end_waiting(waiting: &mut [u16], block: Area, work: &mut [u16], room: usi
 
 // Marks the errors of the piece at column bx, row by; false, with errors as they were, where they have no room. Where its marks are
 // recorded already, most often by the pieces beside it, it leaves them alone.
+#[tactic(auto, using(crate::proofs::MarkErrors::kept_words, crate::proofs::MarkErrors::kept_room))]
 pub fn remark(
     material: &[u16],
     errors: &mut [u16],

@@ -1,5 +1,5 @@
--- What each step is handed follows from the piece whose errors are marked; where the marks are recorded already the errors stay, else the stamped picture is the piece's.
-use Rattle.remark.proofs.MarkErrors.{piece_checkable, piece_block, piece_halo, errors_readable, errors_paintable, errors_small, as_errors, errors_stay}
+-- What each step is handed follows from the piece whose errors are marked; where the marks are recorded already the errors stay (`kept_words`, `kept_room`, which the function names), else the stamped picture is the piece's.
+use Rattle.remark.proofs.MarkErrors.{piece_checkable, piece_block, piece_halo, errors_readable, errors_paintable, errors_small, as_errors}
 use mathlib.Core.Path.{sym, ◌∙◌}
 use native.Mathlib.Omega.{arith}
 use Rattle.remark.proofs.remark.remark.Goals as goal
@@ -12,9 +12,6 @@ near_marks-rows-requires c = piece_checkable c.requires c.halo_of-k.ensures
 
 pub shows_rows-requires : goal.shows_rows-requires
 shows_rows-requires c = errors_readable c.requires c.halo_of-k.ensures c.near_area-near.ensures
-
-pub returns-then-shows_rows : goal.returns-then-shows_rows
-returns-then-shows_rows c = errors_stay c.requires c.halo_of-k.ensures c.near_area-near.ensures c.near_marks-rows.ensures (c.shows_rows.ensures c.if-shows_rows.true)
 
 pub mark_errors-requires : goal.mark_errors-requires
 mark_errors-requires c = record { paintable = errors_paintable c.requires _ c.room_in.ensures c.near_area-near.ensures; small = (errors_small c.requires c.halo_of-k.ensures c.near_area-near.ensures, c.requires.working ∙ sym c.requires.long) }
