@@ -203,3 +203,8 @@ module _ {l : Layout} {work rules : List ℕ} {used bx by : ℕ} (P : PieceIn l 
           tables = record { material = I.material; errors = marks_again q I.errors errors_room errors_types; waiting = marks_again s I.waiting waiting_room waiting_types };
           sound = P.fit.sound;
         }
+
+-- where waiting would have too many tiles it has no room, with what was counted as a premise, as `check_piece` looks for it
+pub piece_unroomed : {ms es ws work rules : List ℕ} {used bx by c r : ℕ} {a : Area} → PieceIn (lent ms es ws) work rules used bx by → c ≡ room_in (length ms) → a ≡ near_area (width ms) (height ms) 0 bx by
+    → TilesAfter c ws (painted (picture_of ws) a 0) r → c < r → piece_fits (lent ms es ws) (rules_of rules used) (halo_of rules used) bx by ≡ false
+piece_unroomed P e f W u = sym (piece_unwaited P e (as_waiting_tiles P f W) u).fits

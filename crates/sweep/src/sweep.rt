@@ -30,6 +30,7 @@ pub struct Swept {
 
 // Checks the piece at column bx, row by; false, with errors and waiting as they were, where one of them has no room for it. What waits
 // is counted before the errors are marked.
+#[tactic(auto, using(crate::proofs::OnePiece::piece_unroomed))]
 pub fn check_piece(
     material: &[u16],
     errors: &mut [u16],
