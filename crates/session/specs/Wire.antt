@@ -4,7 +4,7 @@ use Rattle.std.proofs.Common.{sym, ap, ◌∙◌, append-nil, append_assoc, leng
 use Rattle.session.specs.declared.wire.Came.{Came}
 use Rattle.session.specs.declared.wire.Wire.{Wire}
 
--- bytes heard from standard input, or bytes said on standard output
+-- bytes heard from the reader, or bytes said to the writer: standard input and standard output in the program
 pub data Passed : Type 0 where
   heard : List ℕ → Passed
   said : List ℕ → Passed

@@ -1,8 +1,8 @@
 // The two ends of the wire: bytes are heard from a reader and said to a writer, and main takes standard input and standard output for them. No other file reads or writes.
 // Carried (specs/Wire) tells which bytes passed over a wire, and outside this file nothing proves it but the contracts of hear and say: a Wire's counts are private.
 // What is heard is what the reader loses, and what is said is what the writer gains unless a write fails (`taken`, `put`), of each reader and writer whose bytes a contract knows.
-// So it is proved of run too, which calls each as often as it should. What is left to trust: that standard input and output do what they are asked, since no contract of std
-// speaks of their bytes.
+// So of run it is proved that each chunk is read once and, if no write fails, each reply written once. What is left to trust: that standard input and output do what they are
+// asked, since no contract of std speaks of their bytes.
 ghost use Rattle.std.specs.Prelude.{◌+◌, ◌<◌, ◌^◌, true, [], ◌≡◌, length, take};
 ghost use Rattle.std.specs.Io.KnownBytes.{Appends, Consumes};
 ghost use Rattle.session.specs.Wire.{Carried, Hears, Says};

@@ -70,7 +70,6 @@ pub record PlaceIn (ws : List ℕ) (n : ℕ) (t : Tile) (i j : ℕ) : Type 0 whe
 pub place_none : {ws : List ℕ} {n : ℕ} {t : Tile} → PlaceIn ws n t 0 n
 place_none = record { fits = omega arith; most = omega arith; lower = λ k u. absurd (omega arith); after = λ u. absurd (omega arith) }
 
--- the middle tile comes before t: so do those below it
 pub place_up : {ws : List ℕ} {n : ℕ} {t : Tile} {i j m : ℕ} → InOrderTo ws n → PlaceIn ws n t i j → m < j → Precedes (tile_of ws m) t → PlaceIn ws n t (m + 1) j
 place_up {ws} {n} {t} {i} {j} {m} O P u p = record {
   fits = omega arith;
@@ -89,7 +88,6 @@ place_done {ws} {n} {t} {i} {j} P u = let e : i ≡ j = omega (arith, P.fits) in
 pub low_hit : {ws : List ℕ} {n p x y r : ℕ} {s : Tile} → PlaceOf ws n s p → Sought ws 0 p x y r → r < p → Sought ws 0 n x y r
 low_hit P B u = record { most = omega (arith, P.most); held = λ v. B.held u; none = λ v. absurd (omega (arith, P.most)) }
 
--- ---- tiles that come after (x,y), which s marks, do not hold it: so those before s are all that need be asked
 module _ (ws : List ℕ) {n p : ℕ} (x y : ℕ) {s : Tile} (O : InOrderTo ws n) (e : Past x y s) (P : PlaceOf ws n s p) where
   early : (j : ℕ) → Holds (tile_of ws j) x y → Precedes (tile_of ws j) s
   early j H = ⊎_elim (λ (a : (tile_of ws j).bottom < y). inl (omega (arith, e.bottom))) (λ (a : y ≤ (tile_of ws j).bottom). inr (omega (arith, H, e.bottom), omega (arith, H, e.left))) (lt_or_ge (tile_of ws j).bottom y)

@@ -120,9 +120,6 @@ module _ {ws us vs : List ℕ} {b : Brush} {j k m room : ℕ} (I : Given ws b) (
   pub built_full : room < m → Built (width ws) (height ws) (goal ws b) room vs m
   built_full u = record { full = C.full; built = λ v. absurd (omega arith) }
 
--- the ends of the rebuild once the zone is covered: no room for the tiles that begin higher, and room for all
-module _ {ws us vs : List ℕ} {b : Brush} {j k m room : ℕ} (I : Given ws b) (L : LowTo ws b j) (K : Kept ws b us j k)
-    (C : CoversZone (width ws) (height ws) (goal ws b) room us k (b.x1 - 1) (min (b.x2 + 1) (width ws)) (min (b.y2 + 1) (height ws)) vs m) where
   module _ {n i : ℕ} (u : m ≤ room) (e : n ≡ count ws) (f : i ≡ j) where
     whole : up_to m (tile_of vs) ++ up_to (n - i) (tile_from ws i) ≡ tiles (width ws) (height ws) (goal ws b)
     whole = rw (e, f) (all_built I L K (C.grown u) (C.zone u))

@@ -29,7 +29,6 @@ module _ {w h : ℕ} {q : Picture} {ws : List ℕ} {n room x y m : ℕ} {s : Til
     here = λ v. (i, omega arith, F.held u, e.right ∙ ap (λ (t : Tile). t.right) o, e.top ∙ ap (λ (t : Tile). t.top) o);
   }
 
-module _ {w h : ℕ} {q : Picture} {ws : List ℕ} {n room x y m : ℕ} {s : Tile} {r : Spot} (C : Working w h q ws n room) (e : SpotOf m s r) where
   pub covers_new : {vs : List ℕ} → m ≡ n + 1 → n < room → Strip w h q s → Holds s x y → WithTile ws vs n s → Covers w h q room ws n x y vs r
   covers_new {vs} k u S H W = record {
     full = λ v. absurd (omega arith);
@@ -69,7 +68,6 @@ module _ {w h : ℕ} {q : Picture} {room : ℕ} {ws : List ℕ} {n : ℕ} where
     row = λ i z b c. absurd (omega arith);
   }
 
-module _ {w h : ℕ} {q : Picture} {room : ℕ} {ws : List ℕ} {n : ℕ} where
   module _ {x y : ℕ} {us vs : List ℕ} {r u : Spot} (R : RowSoFar w h q room ws n x y us r) (C : Covers w h q room us r.count r.right y vs u) where
     pub row_more : u.count ≤ room → {m : ℕ} → m ≡ min r.top u.top → RowSoFar w h q room ws n x y vs (record { count = u.count; right = u.right; top = m })
     row_more k {m} o =
@@ -131,7 +129,6 @@ module _ {w h : ℕ} {q : Picture} {room : ℕ} {ws : List ℕ} {n x e f : ℕ} 
   pub zone_under : {y m : ℕ} {vs : List ℕ} → ZoneSoFar w h q room ws n x e f y vs m → RowUnder vs m x e y
   zone_under {y} Z i a b c = Z.zone i (y - 1) a b (omega arith)
 
-module _ {w h : ℕ} {q : Picture} {room : ℕ} {ws : List ℕ} {n x e f : ℕ} where
   pub zone_more : {y m : ℕ} {us vs : List ℕ} {r : Spot} → ZoneSoFar w h q room ws n x e f y us m → CoversRow w h q room us m x e y vs r → y < f → r.count ≤ room → ZoneSoFar w h q room ws n x e f r.top vs r.count
   zone_more {y} Z C o k = record {
     few = k;

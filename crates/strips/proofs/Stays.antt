@@ -223,7 +223,6 @@ not_apart b c d e (above_it u) = omega arith
 pub strip_in : {w h : ℕ} {p : Picture} {s s' : Tile} → Strip w h p s → s' ≡ s → (s'.left < w) × (s'.bottom < h)
 strip_in {w} {h} S e = subst (λ (z : Tile). (z.left < w) × (z.bottom < h)) (sym e) (omega (arith, S.box))
 
--- the strip of a tile that was read, which begins below the area
 pub keep_low : {w h : ℕ} {p : Picture} (b : Brush) {s s' u : Tile} → Strip w h p s → s' ≡ s → s'.bottom < b.y1 → Upward w h (after p b) s'.left s'.bottom u → Strip w h (after p b) u × SameStart u s
 keep_low {w} {h} {p} b {s} {s'} {u} S e o U =
     let v = subst (λ (z : Tile). z.bottom < b.y1) e o in

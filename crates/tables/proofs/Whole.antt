@@ -115,8 +115,6 @@ module _ {c r : ℕ} {ws us : List ℕ} {b : Brush} (M : MayPaint c ws b) (B : B
   pub painted_full : c < r → PaintedOver c ws (goal ws b) ws r
   painted_full u = record { number = λ v. absurd (omega arith); full = B.full; done = λ v. absurd (omega arith); stays = λ v. refl; sound = M.table }
 
--- ---- what the rebuild makes: too many tiles, or a table
-module _ {c r : ℕ} {ws us : List ℕ} {b : Brush} (M : MayPaint c ws b) (B : Built (width ws) (height ws) (goal ws b) c us r) where
   pub painted_done : {vs : List ℕ} → r ≤ c → vs ≡ table c (width ws) (height ws) (kinds ws) (goal ws b) → PaintedOver c ws (goal ws b) vs r
   painted_done {vs} u e = record {
     number = λ v. built_number B v;
