@@ -1,4 +1,4 @@
-# make try        builds the program without proving it, runs the specification's session and shows it
+# make try        builds the program without proving it, runs the specification's session, compares and shows it
 # make demo       proves the program and runs the specification's session, input and output side by side
 # make test       the gate, .ci/run: every proof, every must-fail edit, the program, the C tests
 # make fmt        lays the sources out
@@ -34,6 +34,7 @@ SIDE_BY_SIDE = paste crates/session/stdin - | awk -F '\t' '{ printf "%-24s %s\n"
 try:
 	@mkdir -p build
 	@cd crates/session && rt try < stdin > ../../build/try.out 2> ../../build/try.log || { cat ../../build/try.log; exit 1; }
+	@cmp build/try.out crates/session/stdout
 	@cat build/try.out | $(SIDE_BY_SIDE)
 
 demo: $(PROGRAM)
