@@ -2,3 +2,4 @@
 pub mod Alongs
 pub mod Asked
 pub mod Once
+pub mod Handles
