@@ -4,8 +4,7 @@ use native.Mathlib.Omega.{arith}
 use mathlib.Core.Path.{◌≡◌, refl, subst}
 use mathlib.Core.Logic.{inl, inr}
 use mathlib.Core.List.{List, [], ◌∷◌, ◌++◌}
-use Rattle.plane.specs.declared.answer.Answer.{Answer}
-use Rattle.plane.specs.declared.answer.Answer.TheVariants.{Done, No}
+use Rattle.std.specs.Prelude.{Result, Ok, Err}
 use Rattle.plane.specs.declared.answer.Refusal.{Refusal}
 use Rattle.plane.specs.declared.answer.Refusal.TheVariants.{Lengths, Sizes, NoTable, NoRule, Kind, Place, Full}
 use Rattle.plane.specs.Answers.{refusal_number, number}
@@ -62,15 +61,15 @@ refusal_positive Place = omega arith
 refusal_positive Full = omega arith
 
 -- the first step's answer, taken apart
-pub told_no : (cs : List (ℕ × Type 0)) {a : Answer} {why : Refusal} → Lowest cs (number a) → a ≡ No why → Lowest cs (refusal_number why)
-told_no cs p e = subst (λ (b : Answer). Lowest cs (number b)) e p
+pub told_no : {R : Type 0} (cs : List (ℕ × Type 0)) {a : Result R Refusal} {why : Refusal} → Lowest cs (number a) → a ≡ Err why → Lowest cs (refusal_number why)
+told_no {R} cs p e = subst (λ (b : Result R Refusal). Lowest cs (number b)) e p
 
-pub told_done : (cs : List (ℕ × Type 0)) {a : Answer} → Rising 0 cs → Lowest cs (number a) → a ≡ Done → AllHold cs
-told_done cs r p e = all_hold 0 cs r (subst (λ (b : Answer). Lowest cs (number b)) e p)
+pub told_done : {R : Type 0} (cs : List (ℕ × Type 0)) {a : Result R Refusal} {x : R} → Rising 0 cs → Lowest cs (number a) → a ≡ Ok x → AllHold cs
+told_done {R} cs r p e = all_hold 0 cs r (subst (λ (b : Result R Refusal). Lowest cs (number b)) e p)
 
 -- refused by the first step, whatever the second would have tested
-pub refused_first : {A : Type 0} (cs ds : List (ℕ × Type 0)) {a : Answer} {why : Refusal} {old new : A} → Lowest cs (number a) → a ≡ No why → Outcome (cs ++ ds) old new (refusal_number why) old
-refused_first cs ds {a} {why} {old} {new} p e = record {
+pub refused_first : {A R : Type 0} (cs ds : List (ℕ × Type 0)) {a : Result R Refusal} {why : Refusal} {old new : A} → Lowest cs (number a) → a ≡ Err why → Outcome (cs ++ ds) old new (refusal_number why) old
+refused_first {A} {R} cs ds {a} {why} {old} {new} p e = record {
   number = lowest_first cs ds (refusal_number why) (told_no cs p e) (refusal_positive why);
   leaves = left_as_is (refusal_number why) new old (refusal_positive why);
 }
@@ -80,8 +79,8 @@ pub lowest_after : (cs ds : List (ℕ × Type 0)) (a : ℕ) → AllHold cs → L
 lowest_after [] ds a p q = q
 lowest_after (c ∷ cs) ds a p q = inr (p.0, lowest_after cs ds a p.1 q)
 
-pub passed_first : {A : Type 0} (cs ds : List (ℕ × Type 0)) {a : Answer} {n : ℕ} {old new after : A} → Rising 0 cs → Lowest cs (number a) → a ≡ Done → Lowest ds n → after ≡ if_done n new old → Outcome (cs ++ ds) old new n after
-passed_first cs ds {a} {n} r p e q l = record { number = lowest_after cs ds n (told_done cs r p e) q; leaves = l }
+pub passed_first : {A R : Type 0} (cs ds : List (ℕ × Type 0)) {a : Result R Refusal} {x : R} {n : ℕ} {old new after : A} → Rising 0 cs → Lowest cs (number a) → a ≡ Ok x → Lowest ds n → after ≡ if_done n new old → Outcome (cs ++ ds) old new n after
+passed_first {A} {R} cs ds {a} {x} {n} r p e q l = record { number = lowest_after cs ds n (told_done cs r p e) q; leaves = l }
 
 -- the numbers of a test of tables rise
 pub one_three : (0 < 1) × ((1 < 3) × Unit {0})

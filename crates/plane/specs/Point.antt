@@ -1,7 +1,5 @@
 -- What a point query answers.
-use Rattle.std.specs.Prelude.{ℕ, ◌≤◌, ◌<◌, ◌≡◌, List, [], ◌∷◌, length}
-use Rattle.plane.specs.declared.find.Found.{Found}
-use Rattle.plane.specs.declared.find.Found.TheVariants.{At, Nothing}
+use Rattle.std.specs.Prelude.{Option, Some, None, ℕ, ◌≤◌, ◌<◌, ◌≡◌, List, [], ◌∷◌, length}
 use Rattle.plane.specs.Words.{count, width, height, word, number_at, TableLength, PictureTable}
 use Rattle.plane.specs.Plane.{Names}
 use Rattle.plane.specs.Refusal.{◌unless◌, Outcome}
@@ -30,9 +28,9 @@ pub record Pointed (ws : List ℕ) (w h x y : ℕ) (answer tile : ℕ) : Type 0 
   pub outcome : Outcome (point_refusals ws w h x y) 0 (number_at ws x y) answer tile
 
 -- a look-up in a table that is known to be one: the tile, or the square is outside
-abbrev pub FoundAt : List ℕ → ℕ → ℕ → Found → Type 0
-FoundAt ws x y (At i) = Names ws i x y
-FoundAt ws x y Nothing = SquareIn (width ws) (height ws) x y → ⊥
+abbrev pub FoundAt : List ℕ → ℕ → ℕ → Option ℕ → Type 0
+FoundAt ws x y (Some i) = Names ws i x y
+FoundAt ws x y None = SquareIn (width ws) (height ws) x y → ⊥
 
 -- tile i has squares on row y
 pub record OnRow (ws : List ℕ) (i y : ℕ) : Type 0 where

@@ -7,9 +7,5 @@ pub fn fill(list: &mut [u8], value: u8, from: usize, to: usize)
     requires { (from ≤ to) × (to ≤ length list.old) }
     ensures { Filled value from to list.old list.new }
 {
-    let mut i = from;
-    while i < to {
-        list[i] = value;
-        i += 1;
-    }
+    list[from..to].fill(value);
 }

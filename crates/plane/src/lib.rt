@@ -2,9 +2,10 @@
 #![tactic(auto)]
 
 pub mod answer;
-pub mod area;
+mod area;
 pub mod fill;
-pub mod find;
+mod find;
 pub mod listing;
+pub mod table;
 pub mod tile;
 pub mod words;

@@ -9,7 +9,6 @@ pub fn note(out: &mut [u16], m: usize, v: u16, most: usize) -> usize
 {
     if m < most {
         out[m] = v;
-        return m + 1;
     }
     m + 1
 }

@@ -1,36 +1,8 @@
 // The words of a table: where its tiles stand in it, and what length and sizes are a table's.
-ghost use Rattle.std.specs.Prelude.{◌≡◌, ◌+◌, ◌-◌, ◌*◌, ◌<◌, ◌≤◌, min, max, length, get_or};
+ghost use Rattle.std.specs.Prelude.{◌≡◌, ◌+◌, ◌-◌, ◌*◌, ◌<◌, ◌≤◌, length, get_or};
 ghost use Rattle.plane.specs.Words.{word, tile_of, room_in, TableLength, InRange, Says};
 
 use crate::tile::Tile;
-
-// A word as a count.
-pub fn wide(x: u16) -> usize
-    ensures { result ≡ x }
-{
-    x as usize
-}
-
-// x - y, and 0 where y is more.
-pub fn less(x: u16, y: u16) -> u16
-    ensures { result ≡ x - y }
-{
-    if y < x { x - y } else { 0 }
-}
-
-// The smaller of two.
-pub fn least(x: u16, y: u16) -> u16
-    ensures { result ≡ min x y }
-{
-    if x <= y { x } else { y }
-}
-
-// The larger of two.
-pub fn most(x: u16, y: u16) -> u16
-    ensures { result ≡ max x y }
-{
-    if x <= y { y } else { x }
-}
 
 // Word k of tile i.
 pub fn word_at(t: &[u16], i: usize, k: usize) -> u16
@@ -44,7 +16,7 @@ pub fn word_at(t: &[u16], i: usize, k: usize) -> u16
 pub fn header_word(t: &[u16], i: usize) -> u16
     ensures { result ≡ get_or t.now i 0 }
 {
-    if i < t.len() { t[i] } else { 0 }
+    t.get(i).copied().unwrap_or(0)
 }
 
 // Tile i.
@@ -65,10 +37,7 @@ pub fn nth_tile(t: &[u16], i: usize) -> Tile
 pub fn room_in(n: usize) -> usize
     ensures { result ≡ room_in n }
 {
-    if n < 4 {
-        return 0;
-    }
-    (n - 4) / 9
+    n.saturating_sub(4) / 9
 }
 
 // Is n the length of a table?
@@ -76,39 +45,12 @@ pub fn table_length(n: usize) -> bool
     ensures { Says result (TableLength n) }
 {
     let c = room_in(n);
-    if c < 1 {
-        return false;
-    }
-    if 3600 < c {
-        return false;
-    }
-    if n != 4 + 9 * c {
-        return false;
-    }
-    true
+    1 <= c && c <= 3600 && n == 4 + 9 * c
 }
 
 // Are width, height and number of types in their ranges?
 pub fn in_range(w: u16, h: u16, t: u16) -> bool
     ensures { Says result (InRange w h t) }
 {
-    if w < 1 {
-        return false;
-    }
-    if 4096 < w {
-        return false;
-    }
-    if h < 1 {
-        return false;
-    }
-    if 4096 < h {
-        return false;
-    }
-    if t < 2 {
-        return false;
-    }
-    if 16 < t {
-        return false;
-    }
-    true
+    1 <= w && w <= 4096 && 1 <= h && h <= 4096 && 2 <= t && t <= 16
 }

@@ -1,10 +1,10 @@
 use Prim.Native.Nat.{◌-◌, ◌≤◌}
 use Rattle.plane.specs.Words.{width, word}
 use Rattle.plane.specs.Point.{OnRow}
-use Rattle.plane.proofs.find.rightward.Given as goal
+use Rattle.plane.proofs.table.Table.rightward.Given as goal
 
 abbrev pub invariant-loop-k : goal.invariant-loop-k
-invariant-loop-k l = OnRow l.t l.k l.y × (word l.t l.k 0 ≤ l.x)
+invariant-loop-k l = OnRow l.self l.k l.y × (word l.self l.k 0 ≤ l.x)
 
 abbrev pub decreases-loop-k : goal.decreases-loop-k
-decreases-loop-k l = width l.t - word l.t l.k 2
+decreases-loop-k l = width l.self - word l.self l.k 2
