@@ -8,6 +8,7 @@ use crate::tile::Tile;
 use crate::words::{nth_tile, word_at};
 use std::marker::Model;
 
+#[derive(Drop)]
 pub struct Table<'a> {
     words: &'a [u16],
 }
