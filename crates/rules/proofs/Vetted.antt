@@ -13,12 +13,18 @@ use borrow.Author.Tests.{ltb-true, ltb-false, lt-ltb, le-ltb, leb-true, eqb-fals
 use Rattle.plane.specs.Picture.{joined}
 use Rattle.plane.proofs.Basics.{and_left, and_right, lt_or_ge, tf}
 use Rattle.plane.proofs.Runs.{Extent, extent_is}
+use Rattle.plane.proofs.Lowests.{AllHold, all_hold}
 use Rattle.rules.specs.declared.rule.Rule.{Rule}
-use Rattle.rules.specs.declared.list.RulesAnswer.TheVariants.{Sound, BadAt}
+use Rattle.std.specs.Prelude.{Result, Ok, Err}
+use Rattle.std.specs.Result.{MatchResult, IsErrAnd}
+use Rattle.std.proofs.lemmas.Result.{err_from_is_err_and}
+use Rattle.rules.specs.declared.list.ListError.{ListError}
+use Rattle.rules.specs.declared.list.ListError.TheVariants.{BadRule}
+use Rattle.rules.specs.Answers.{list_number, list_place}
 use Rattle.rules.specs.Some.{Every}
 use Rattle.rules.specs.Sets.{within}
 use Rattle.rules.specs.Words.{rule_at, rules_of, sound, sound_at, reach, halo_of, Reaches, Apart}
-use Rattle.rules.specs.Vetting.{ListLength, KindsIn, AllSound, lowest_bad, vetted, ListVetted}
+use Rattle.rules.specs.Vetting.{ListLength, KindsIn, AllSound, lowest_bad, vetted, ListVetted, list_tests, ListTested}
 use Rattle.rules.proofs.Searches.{every_append}
 
 -- ---- the lowest bad rule
@@ -38,28 +44,28 @@ module _ (ws : List ℕ) (used t : ℕ) where
       (lt_or_ge (lowest_bad ws used t) i)
 
   -- a loop that stops at a bad rule, and one that does not
-  pub vetted_bad : (i : ℕ) → i < used → ((j : ℕ) → j < i → sound_at ws t j ≡ true) → sound_at ws t i ≡ false → BadAt i ≡ vetted ws used t
+  pub vetted_bad : (i : ℕ) → i < used → ((j : ℕ) → j < i → sound_at ws t j ≡ true) → sound_at ws t i ≡ false → Err i ≡ vetted ws used t
   unfolding vetted
   vetted_bad i u pass fail = rw (lowest_is i (omega arith) pass (λ _. fail), lt-ltb i used u)
 
-  pub vetted_sound : AllSound ws used t → Sound ≡ vetted ws used t
+  pub vetted_sound : AllSound ws used t → Ok (tt {0}) ≡ vetted ws used t
   unfolding vetted
   vetted_sound pass = rw (lowest_is used (omega arith) pass (λ l. absurd (omega arith)), le-ltb used used (omega arith))
 
   -- and what its answer tells
-  pub all_sound : vetted ws used t ≡ Sound → AllSound ws used t
+  pub all_sound : vetted ws used t ≡ Ok (tt {0}) → AllSound ws used t
   unfolding vetted
   all_sound e i l = go (ltb (lowest_bad ws used t) used) refl e
     where
-      go : (b : Bool) → ltb (lowest_bad ws used t) used ≡ b → cond b (BadAt (lowest_bad ws used t)) Sound ≡ Sound → sound_at ws t i ≡ true
+      go : (b : Bool) → ltb (lowest_bad ws used t) used ≡ b → cond b (Err (lowest_bad ws used t)) (Ok (tt {0})) ≡ Ok (tt {0}) → sound_at ws t i ≡ true
       go true f e = let z : ◌≡◌ {A = ℕ} 0 1 = cc in absurd (omega arith)
       go false f e = lowest.pass i (omega arith) (omega (arith, ltb-false (lowest_bad ws used t) used f))
 
-  pub bad_lowest : (i : ℕ) → vetted ws used t ≡ BadAt i → (i ≡ lowest_bad ws used t) × (AllSound ws used t → ⊥)
+  pub bad_lowest : (i : ℕ) → vetted ws used t ≡ Err i → (i ≡ lowest_bad ws used t) × (AllSound ws used t → ⊥)
   unfolding vetted
   bad_lowest i e = go (ltb (lowest_bad ws used t) used) refl e
     where
-      go : (b : Bool) → ltb (lowest_bad ws used t) used ≡ b → cond b (BadAt (lowest_bad ws used t)) Sound ≡ BadAt i → (i ≡ lowest_bad ws used t) × (AllSound ws used t → ⊥)
+      go : (b : Bool) → ltb (lowest_bad ws used t) used ≡ b → cond b (Err (lowest_bad ws used t)) (Ok (tt {0})) ≡ Err i → (i ≡ lowest_bad ws used t) × (AllSound ws used t → ⊥)
       go true f e =
           let l = ltb-true (lowest_bad ws used t) used f in
           let m : i ≡ lowest_bad ws used t = cc in
@@ -67,11 +73,19 @@ module _ (ws : List ℕ) (used t : ℕ) where
       go false f e = let z : ◌≡◌ {A = ℕ} 0 1 = cc in absurd (omega arith)
 
   -- ---- the test of a list
-  pub list_bad : (i : ℕ) → ListLength (length ws) used → KindsIn t → vetted ws used t ≡ BadAt i → ListVetted ws used t 4 i
+  pub list_bad : (i : ℕ) → ListLength (length ws) used → KindsIn t → vetted ws used t ≡ Err i → ListVetted ws used t 4 i
   list_bad i L K e = let b = bad_lowest i e in record { number = inr (L, inr (K, inl (b.1, refl))); lowest = b.0 }
 
-  pub list_sound : ListLength (length ws) used → KindsIn t → vetted ws used t ≡ Sound → ListVetted ws used t 0 0
+  pub list_sound : ListLength (length ws) used → KindsIn t → vetted ws used t ≡ Ok (tt {0}) → ListVetted ws used t 0 0
   list_sound L K e = record { number = inr (L, inr (K, inr (all_sound e, refl))); lowest = refl }
+
+  -- where neither speaks against it, the rules' test decides
+  pub list_vetted : (v : Result (Unit {0}) ℕ) (r : Result (Unit {0}) ListError) → ListTested (length ws) used t 0 → v ≡ vetted ws used t → MatchResult v (λ x. r ≡ Ok x) (λ i. IsErrAnd r (λ e. e ≡ BadRule i)) → ListVetted ws used t (list_number r) (list_place r)
+  list_vetted v r p e m = go v (all_hold 0 (list_tests (length ws) used t) (omega arith, (omega arith, tt)) p.number) e m
+    where
+      go : (v : Result (Unit {0}) ℕ) → AllHold (list_tests (length ws) used t) → v ≡ vetted ws used t → MatchResult v (λ x. r ≡ Ok x) (λ i. IsErrAnd r (λ e. e ≡ BadRule i)) → ListVetted ws used t (list_number r) (list_place r)
+      go (Ok x) h e m = rw m (list_sound h.0 h.1.0 (sym e))
+      go (Err i) h e m = let f = err_from_is_err_and r m in rw (f.1, f.2) (list_bad i h.0 h.1.0 (sym e))
 
 -- one rule more is sound
 pub sound_more : (ws : List ℕ) (t i : ℕ) → AllSound ws i t → sound_at ws t i ≡ true → AllSound ws (i + 1) t

@@ -1,29 +1,21 @@
--- The paper's number, and the values, of each answer of the calls; a value is 0 where the paper names none.
-use Rattle.std.specs.Prelude.{ℕ}
-use Rattle.plane.specs.Answers.{refusal_number}
-use Rattle.rules.specs.declared.list.ListAnswer.{ListAnswer}
-use Rattle.rules.specs.declared.list.ListAnswer.TheVariants as list
-use Rattle.rules.specs.declared.list.HaloAnswer.{HaloAnswer}
-use Rattle.rules.specs.declared.list.HaloAnswer.TheVariants as halo
+-- The number of each answer to a list of rules, and the place that it names; a place is 0 where none is named.
+use Rattle.std.specs.Prelude.{ℕ, Result, Ok, Err}
+use Rattle.rules.specs.declared.list.ListError.{ListError}
+use Rattle.rules.specs.declared.list.ListError.TheVariants.{Lengths, Sizes, BadRule}
+
+-- the number of what speaks against a list
+abbrev pub error_number : ListError → ℕ
+error_number Lengths = 1
+error_number Sizes = 2
+error_number (BadRule i) = 4
 
 -- the test of a list: its number, and the lowest bad rule's place
-abbrev pub list_number : ListAnswer → ℕ
-list_number list.Sound = 0
-list_number list.Lengths = 1
-list_number list.Sizes = 2
-list_number (list.BadAt i) = 4
+abbrev pub list_number : Result (Unit {0}) ListError → ℕ
+list_number (Ok x) = 0
+list_number (Err e) = error_number e
 
-abbrev pub list_place : ListAnswer → ℕ
-list_place list.Sound = 0
-list_place list.Lengths = 0
-list_place list.Sizes = 0
-list_place (list.BadAt i) = i
-
--- the halo of a list: its number, and the halo
-abbrev pub halo_number : HaloAnswer → ℕ
-halo_number (halo.Reach k) = 0
-halo_number (halo.No r) = refusal_number r
-
-abbrev pub halo_value : HaloAnswer → ℕ
-halo_value (halo.Reach k) = k
-halo_value (halo.No r) = 0
+abbrev pub list_place : Result (Unit {0}) ListError → ℕ
+list_place (Ok x) = 0
+list_place (Err Lengths) = 0
+list_place (Err Sizes) = 0
+list_place (Err (BadRule i)) = i

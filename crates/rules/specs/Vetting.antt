@@ -1,9 +1,7 @@
 -- When a rule list is good, and what its test and its halo answer.
-use Rattle.std.specs.Prelude.{ℕ, ◌/◌, ◌%◌, ◌≤◌, ◌<◌, true, cond, ◌≡◌, List, [], ◌∷◌, length, eqb, ltb}
+use Rattle.std.specs.Prelude.{ℕ, ◌/◌, ◌%◌, ◌≤◌, ◌<◌, true, cond, ◌≡◌, List, [], ◌∷◌, length, eqb, ltb, Result, Ok, Err}
 use Rattle.plane.specs.Picture.{extent}
 use Rattle.plane.specs.Refusal.{◌unless◌, Lowest, Outcome}
-use Rattle.rules.specs.declared.list.RulesAnswer.{RulesAnswer}
-use Rattle.rules.specs.declared.list.RulesAnswer.TheVariants.{Sound, BadAt}
 use Rattle.rules.specs.Words.{sound_at, halo_of}
 
 -- a list of n words: a multiple of eight, room for at most 512 rules, and for those used
@@ -56,6 +54,6 @@ pub record ListTested (n used t : ℕ) (answer : ℕ) : Type 0 where
   pub number : Lowest (list_tests n used t) answer
 
 -- what the test of the rules answers
-unfoldable pub vetted : List ℕ → ℕ → ℕ → RulesAnswer
+unfoldable pub vetted : List ℕ → ℕ → ℕ → Result (Unit {0}) ℕ
 unfolding lowest_bad
-vetted ws used t = cond (ltb (lowest_bad ws used t) used) (BadAt (lowest_bad ws used t)) Sound
+vetted ws used t = cond (ltb (lowest_bad ws used t) used) (Err (lowest_bad ws used t)) (Ok (tt {0}))

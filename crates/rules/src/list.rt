@@ -1,133 +1,129 @@
 // A list of rules: its length, the lowest rule out of its ranges, and the halo. The public calls are vet_list and halo.
-ghost use Rattle.std.specs.Prelude.{◌≡◌, ◌*◌, ◌≤◌, length};
-ghost use Rattle.plane.specs.Answers.{number};
+ghost use Rattle.std.specs.Prelude.{◌≡◌, ◌+◌, ◌*◌, ◌≤◌, length};
+ghost use Rattle.plane.specs.Answers.{number, value, refusal_number};
 ghost use Rattle.plane.specs.Words.{Says};
-ghost use Rattle.rules.specs.Answers.{list_number, list_place, halo_number, halo_value};
-ghost use Rattle.rules.specs.Words.{halo_of};
+ghost use Rattle.rules.specs.Answers.{error_number, list_number, list_place};
+ghost use Rattle.rules.specs.Words.{rule_at, halo_of};
 ghost use Rattle.rules.specs.Vetting.{ListLength, KindsIn, ListTested, vetted, ListVetted, HaloFound};
 
-use crate::rule::{is_sound, rule_at};
-use plane::answer::{Answer, Refusal};
-use plane::words::most;
+use crate::rule::Rule;
+use plane::answer::Refusal;
 
-// The answer of vet_rules: all rules are within their ranges, or the place of the lowest that is not.
+// A list of rules as it is lent: its words, eight to a rule, and how many of its rules are used.
 #[derive(Clone, Copy)]
-pub enum RulesAnswer {
-    Sound,
-    BadAt(u16),
+pub struct RuleList<'a> {
+    pub words: &'a [u16],
+    pub used: usize,
 }
 
-// The answer of vet_list. Each refusal is a case of its own, so that its number and place tell the answer.
-#[derive(Clone, Copy)]
-pub enum ListAnswer {
-    Sound,
+// What speaks against a list: its length, T, or a rule, the lowest that is out of its ranges.
+#[derive(Clone, Copy, PartialEq, Eq)]
+pub enum ListError {
     Lengths,
     Sizes,
-    BadAt(u16),
+    BadRule(u16),
 }
 
-// The answer of halo.
-#[derive(Clone, Copy)]
-pub enum HaloAnswer {
-    Reach(u16),
-    No(Refusal),
+// The refusal of a call that names no rule.
+impl From<ListError> for Refusal {
+    ghost from_gives = { λ e r. refusal_number r ≡ error_number e };
+
+    fn from(e: ListError) -> Refusal {
+        match e {
+            ListError::Lengths => Refusal::Lengths,
+            ListError::Sizes => Refusal::Sizes,
+            ListError::BadRule(_) => Refusal::NoRule,
+        }
+    }
 }
 
 // Is n the length of a rule list, with room for the rules used?
 pub fn list_length(n: usize, used: usize) -> bool
     ensures { Says result (ListLength n used) }
 {
-    if n % 8 != 0 {
-        return false;
-    }
-    if 4096 < n {
-        return false;
-    }
-    if n / 8 < used {
-        return false;
-    }
-    true
+    n % 8 == 0 && n <= 4096 && used <= n / 8
 }
 
 // Is T in its range?
 pub fn kinds_in(t: u16) -> bool
     ensures { Says result (KindsIn t) }
 {
-    if t < 2 {
-        return false;
-    }
-    if 16 < t {
-        return false;
-    }
-    true
+    2 <= t && t <= 16
 }
 
 // What speaks against a list of n words before its rules are looked at: its length (1) and T (2).
-pub fn list_tests(n: usize, used: usize, t: u16) -> Answer
-    ensures { ListTested n used t (number result) }
+pub fn list_tests(n: usize, used: usize, t: u16) -> Result<(), ListError>
+    ensures { ListTested n used t (list_number result) }
 {
     if !list_length(n, used) {
-        return Answer::No(Refusal::Lengths);
+        return Err(ListError::Lengths);
     }
     if !kinds_in(t) {
-        return Answer::No(Refusal::Sizes);
+        return Err(ListError::Sizes);
     }
-    Answer::Done
+    Ok(())
 }
 
-// The lowest of the used rules that is out of its ranges. Not a public call: its caller has tested the length and T.
-pub fn vet_rules(rules: &[u16], used: usize, t: u16) -> RulesAnswer
-    requires { (ListLength (length rules.now) used) × (t ≤ 16) }
-    ensures { result ≡ vetted rules.now used t }
-{
-    let mut i: usize = 0;
-    while i < used {
-        if !is_sound(rule_at(rules, i), t) {
-            return RulesAnswer::BadAt(i as u16);
+impl<'a> RuleList<'a> {
+    // Rule i of the list.
+    #[tactic(auto, unfolding(crate::specs::Words::rule_at))]
+    pub fn rule(self, i: usize) -> Rule
+        requires { 8 * i + 8 ≤ length self.words.now }
+        ensures { result ≡ rule_at self.entry.words.now i }
+    {
+        let at = 8 * i;
+        Rule {
+            type1: self.words[at],
+            type2: self.words[at + 1],
+            d: self.words[at + 2],
+            allowed: self.words[at + 3],
+            corners: self.words[at + 4],
+            ce: self.words[at + 5],
+            fourway: self.words[at + 6],
+            reason: self.words[at + 7],
         }
-        i += 1;
     }
-    RulesAnswer::Sound
+
+    // The place of the lowest of the used rules that is out of its ranges, as an error. Its caller has tested the length and T.
+    pub fn vet(self, t: u16) -> Result<(), u16>
+        requires { (ListLength (length self.words.now) self.used) × (t ≤ 16) }
+        ensures { result ≡ vetted self.entry.words.now self.entry.used t }
+    {
+        for i in 0..self.used {
+            if !self.rule(i).is_sound(t) {
+                return Err(i as u16);
+            }
+        }
+        Ok(())
+    }
+
+    // The largest d or ce of the used rules. Its caller has tested the length.
+    pub fn halo(self) -> u16
+        requires { 8 * self.used ≤ length self.words.now }
+        ensures { result ≡ halo_of self.entry.words.now self.entry.used }
+    {
+        let mut halo: u16 = 0;
+        for i in 0..self.used {
+            halo = halo.max(self.rule(i).reach());
+        }
+        halo
+    }
 }
 
 // Is the list's length right (1), is T in its range (2), and are the used rules within their ranges (4)?
-pub fn vet_list(rules: &[u16], used: usize, t: u16) -> ListAnswer
-    ensures { ListVetted rules.now used t (list_number result) (list_place result) }
+pub fn vet_list(rules: RuleList<'_>, t: u16) -> Result<(), ListError>
+    ensures { ListVetted rules.entry.words.now rules.entry.used t (list_number result) (list_place result) }
 {
-    if !list_length(rules.len(), used) {
-        return ListAnswer::Lengths;
-    }
-    if !kinds_in(t) {
-        return ListAnswer::Sizes;
-    }
-    let vetted = vet_rules(rules, used, t);
-    if let RulesAnswer::BadAt(i) = vetted {
-        return ListAnswer::BadAt(i);
-    }
-    ListAnswer::Sound
-}
-
-// The largest d or ce of the used rules. Not a public call: its caller has tested the length.
-pub fn halo_of(rules: &[u16], used: usize) -> u16
-    requires { 8 * used ≤ length rules.now }
-    ensures { result ≡ halo_of rules.now used }
-{
-    let mut m: u16 = 0;
-    let mut i: usize = 0;
-    while i < used {
-        let r = rule_at(rules, i);
-        m = most(m, most(r.d, r.ce));
-        i += 1;
-    }
-    m
+    list_tests(rules.words.len(), rules.used, t)?;
+    rules.vet(t).map_err(ListError::BadRule)
 }
 
 // The halo of a list, if its length is right (1).
-pub fn halo(rules: &[u16], used: usize) -> HaloAnswer
-    ensures { HaloFound rules.now used (halo_number result) (halo_value result) }
+pub fn halo(rules: RuleList<'_>) -> Result<u16, Refusal>
+    ensures { HaloFound rules.entry.words.now rules.entry.used (number result) (value result) }
 {
-    if !list_length(rules.len(), used) {
-        return HaloAnswer::No(Refusal::Lengths);
+    if !list_length(rules.words.len(), rules.used) {
+        return Err(Refusal::Lengths);
     }
-    HaloAnswer::Reach(halo_of(rules, used))
+    Ok(rules.halo())
 }

@@ -1,10 +1,11 @@
 // One rule: its eight words, its sets of types, and its ranges. No public calls: whoever uses these has tested the list's length and T.
-ghost use Rattle.std.specs.Prelude.{◌≡◌, ◌+◌, ◌*◌, ◌≤◌, ◌<◌, length};
+ghost use Rattle.std.specs.Prelude.{◌≡◌, ◌≤◌, ◌<◌};
 ghost use Rattle.rules.specs.Sets.{member};
-ghost use Rattle.rules.specs.Words.{rule_at, sound};
+ghost use Rattle.rules.specs.Words.{sound, reach};
 
-// The words of a rule, in their order. A set has bit t for type t; fourway is the paper's kind.
-#[derive(Clone, Copy)]
+// The words of a rule, in their order. A set has bit t for type t; fourway is 0 for a one-way rule and 1 for a fourway one. They stay
+// words, not an enum and sets of their own, since a list that is lent may hold any, and the test of a list has to name the bad rule.
+#[derive(Clone, Copy, PartialEq, Eq)]
 pub struct Rule {
     pub type1: u16,
     pub type2: u16,
@@ -16,39 +17,38 @@ pub struct Rule {
     pub reason: u16,
 }
 
-// Rule i of a list.
-pub fn rule_at(rules: &[u16], i: usize) -> Rule
-    requires { 8 * i + 8 ≤ length rules.now }
-    ensures { result ≡ rule_at rules.now i }
-{
-    let at = 8 * i;
-    Rule {
-        type1: rules[at],
-        type2: rules[at + 1],
-        d: rules[at + 2],
-        allowed: rules[at + 3],
-        corners: rules[at + 4],
-        ce: rules[at + 5],
-        fourway: rules[at + 6],
-        reason: rules[at + 7],
-    }
-}
-
 // Does the set hold the type?
+#[tactic(auto, unfolding(crate::specs::Sets::member))]
 pub fn member(set: u16, kind: u16) -> bool
     requires { kind < 32 }
     ensures { result ≡ member set kind }
 {
-    ((set as u32) >> kind) % 2 == 1
+    (u32::from(set) >> kind) % 2 == 1
 }
 
-// Is the rule within its ranges, for t types?
-pub fn is_sound(r: Rule, t: u16) -> bool
-    requires { t ≤ 16 }
-    ensures { result ≡ sound t r }
-{
-    let types = (r.type1 < t) & (r.type2 < t) & (r.type1 != r.type2);
-    let sizes = (1 <= r.d) & (r.d <= 16) & (r.ce <= 16) & (r.fourway <= 1);
-    let sets = ((r.allowed as u32) >> t == 0) & ((r.corners as u32) >> t == 0);
-    types & sizes & sets
+impl Rule {
+    // Is the rule within its ranges, for t types?
+    #[tactic(auto, unfolding(crate::specs::Words::sound))]
+    pub fn is_sound(self, t: u16) -> bool
+        requires { t ≤ 16 }
+        ensures { result ≡ sound t self }
+    {
+        self.type1 < t
+            && self.type2 < t
+            && self.type1 != self.type2
+            && 1 <= self.d
+            && self.d <= 16
+            && self.ce <= 16
+            && self.fourway <= 1
+            && u32::from(self.allowed) >> t == 0
+            && u32::from(self.corners) >> t == 0
+    }
+
+    // How far it reaches: the larger of d and ce.
+    #[tactic(auto, unfolding(crate::specs::Words::reach))]
+    pub fn reach(self) -> u16
+        ensures { result ≡ reach self }
+    {
+        self.d.max(self.ce)
+    }
 }
