@@ -30,6 +30,14 @@ impl<'a> Table<'a> {
         Table { words }
     }
 
+    // Its words.
+    pub fn words(&self) -> &'a [u16]
+        ensures value { result.now ≡ self.now }
+        ensures plane { Plane self.now }
+    {
+        self.words
+    }
+
     // How many tiles it has.
     pub fn count(&self) -> u16
         ensures value { result ≡ count self.now }

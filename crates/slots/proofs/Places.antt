@@ -1,13 +1,13 @@
 -- The place of a tile among the first n, by halves; a tile put there; and what is known of a square by the tile under it.
 use Prim.Native.Nat.{ℕ, ◌+◌, ◌-◌, ◌≤◌, ◌<◌}
 use native.Mathlib.Omega.{arith}
-use mathlib.Core.Bool.{Bool, true, false}
 use mathlib.Core.Path.{◌≡◌, refl, sym, ◌∙◌, subst}
 use mathlib.Core.Logic.{◌⊎◌, inl, inr, ⊎_elim}
 use mathlib.Core.List.{List}
+use Rattle.std.specs.Prelude.{Option, Some, None}
 use Rattle.plane.specs.declared.tile.Tile.{Tile}
 use Rattle.plane.specs.Strips.{Holds, Precedes}
-use Rattle.plane.specs.Words.{Says, tile_of}
+use Rattle.plane.specs.Words.{tile_of}
 use Rattle.slots.specs.Slots.{Fresh, Holder, InOrderTo, Past, PlaceOf, PutTile, ShiftedUp, Sorted, Sought, Under, WithTile}
 use Rattle.plane.proofs.Basics.{lt_or_ge}
 use Rattle.plane.proofs.Index.{precedes_trans}
@@ -85,9 +85,6 @@ pub place_done : {ws : List ℕ} {n : ℕ} {t : Tile} {i j : ℕ} → PlaceIn ws
 place_done {ws} {n} {t} {i} {j} P u = let e : i ≡ j = omega (arith, P.fits) in record { most = omega (arith, P.most); lower = P.lower; after = λ v p. P.after (omega arith) (subst (λ (z : ℕ). Precedes (tile_of ws z) t) e p) }
 
 -- ---- tiles that come after (x,y), which s marks, do not hold it: so those before s are all that need be asked
-pub low_hit : {ws : List ℕ} {n p x y r : ℕ} {s : Tile} → PlaceOf ws n s p → Sought ws 0 p x y r → r < p → Sought ws 0 n x y r
-low_hit P B u = record { most = omega (arith, P.most); held = λ v. B.held u; none = λ v. absurd (omega (arith, P.most)) }
-
 module _ (ws : List ℕ) {n p : ℕ} (x y : ℕ) {s : Tile} (O : InOrderTo ws n) (e : Past x y s) (P : PlaceOf ws n s p) where
   early : (j : ℕ) → Holds (tile_of ws j) x y → Precedes (tile_of ws j) s
   early j H = ⊎_elim (λ (a : (tile_of ws j).bottom < y). inl (omega (arith, e.bottom))) (λ (a : y ≤ (tile_of ws j).bottom). inr (omega (arith, H, e.bottom), omega (arith, H, e.left))) (lt_or_ge (tile_of ws j).bottom y)
@@ -95,12 +92,12 @@ module _ (ws : List ℕ) {n p : ℕ} (x y : ℕ) {s : Tile} (O : InOrderTo ws n)
   pub first_too : (j : ℕ) → j < n → p ≤ j → Precedes (tile_of ws j) s → Precedes (tile_of ws p) s
   first_too j o a q = ⊎_elim (λ (b : p < j). precedes_trans (tile_of ws p) (tile_of ws j) s (O p j b o) q) (λ (b : j ≤ p). let e : p ≡ j = omega arith in subst (λ (z : ℕ). Precedes (tile_of ws z) s) (sym e) q) (lt_or_ge p j)
 
-  pub low_free : ((j : ℕ) → j < p → Holds (tile_of ws j) x y → ⊥) → Sought ws 0 n x y n
-  low_free f = record {
-    most = omega arith;
-    held = λ v. absurd (omega arith);
-    none = λ v j _ o H. ⊎_elim (λ (a : j < p). f j a H) (λ (a : p ≤ j). P.after (omega arith) (first_too j o a (early j H))) (lt_or_ge j p);
-  }
+  pub low_free : ((j : ℕ) → j < p → Holds (tile_of ws j) x y → ⊥) → Sought ws 0 n x y None
+  low_free f j _ o H = ⊎_elim (λ (a : j < p). f j a H) (λ (a : p ≤ j). P.after (omega arith) (first_too j o a (early j H))) (lt_or_ge j p)
+
+  pub low_back : (r : Option ℕ) → Sought ws 0 p x y r → Sought ws 0 n x y r
+  low_back (Some r) B = (omega (arith, P.most, B.0), B.1)
+  low_back None B = low_free (λ j a. B j (omega arith) a)
 
 -- where tile k holds the square under (x,y), a tile that holds (x,y) is k or begins at y, and then it is the last before s
 module _ {ws : List ℕ} {n p j : ℕ} (x y : ℕ) {s : Tile} (S : Sorted ws n) (e : Past x y s) (P : PlaceOf ws n s p) (last : p ≡ j + 1) where
@@ -113,7 +110,7 @@ module _ {ws : List ℕ} {n p j : ℕ} (x y : ℕ) {s : Tile} (S : Sorted ws n) 
       (λ b. S.one m j (tile_of ws j).left (tile_of ws j).bottom (omega arith) o (omega (arith, H, C, a.0, a.1, b.0, b.1, e.left, e.bottom)) C) (P.lower j (omega arith)))
       (S.order m j u o)
 
-  pub low_under : {k : ℕ} → (Holder ws n j x y → ⊥) → (Holder ws n k x y → ⊥) → Under ws n k x y → Sought ws 0 n x y n
+  pub low_under : {k : ℕ} → (Holder ws n j x y → ⊥) → (Holder ws n k x y → ⊥) → Under ws n k x y → Sought ws 0 n x y None
   low_under {k} f g K = low_free ws x y S.order e P each
     where
       high : (m : ℕ) → m < p → Holds (tile_of ws m) x y → y ≤ (tile_of ws m).bottom → ⊥
@@ -124,31 +121,3 @@ module _ {ws : List ℕ} {n p j : ℕ} (x y : ℕ) {s : Tile} (S : Sorted ws n) 
           (λ (a : (tile_of ws m).bottom < y). let q = S.one m k x (y - 1) (omega (arith, P.most)) K.holder.counted (omega (arith, H, K.some)) K.holder.held in g (record { counted = K.holder.counted; held = subst (λ (z : ℕ). Holds (tile_of ws z) x y) q H }))
           (λ (a : y ≤ (tile_of ws m).bottom). high m u H a)
           (lt_or_ge (tile_of ws m).bottom y)
-
--- a tile that holds the square is found
-pub holder_sought : {ws : List ℕ} {n k x y : ℕ} → Holder ws n k x y → Sought ws 0 n x y k
-holder_sought H = record { most = omega (arith, H.counted); held = λ v. H.held; none = λ v. absurd (omega (arith, H.counted)) }
-
--- ---- answers of tests, at a tile that was read
-pub said_yes : (P : Tile → Type 0) {s t : Tile} {b : Bool} → Says b (P s) → s ≡ t → b ≡ true → P t
-said_yes P {s} {t} {b} h e f = subst P e (rw f at h)
-
-pub said_no_lem : (P : Tile → Type 0) {s t : Tile} {b : Bool} → Says b (P s) → s ≡ t → b ≡ false → P t → ⊥
-said_no_lem P {s} {t} {b} h e f p = (rw f at h) (subst P (sym e) p)
-
--- the answer for the tile is the answer for its number
-pub holder_is : (ws : List ℕ) (n k x y : ℕ) {t : Tile} (b : Bool) → k < n → Says b (Holds t x y) → t ≡ tile_of ws k → Says b (Holder ws n k x y)
-holder_is ws n k x y {t} true u h e = record { counted = u; held = subst (λ (z : Tile). Holds z x y) e h }
-holder_is ws n k x y {t} false u h e = λ H. h (subst (λ (z : Tile). Holds z x y) (sym e) H.held)
-
--- and so is that for the square under
-pub under_is : (ws : List ℕ) (n k x y : ℕ) (b : Bool) → 0 < y → Says b (Holder ws n k x (y - 1)) → Says b (Under ws n k x y)
-under_is ws n k x y true u h = record { some = u; holder = h }
-under_is ws n k x y false u h = λ U. h U.holder
-
--- ---- a scan, upward and downward: none so far, and not this one
-pub free_more : {P : ℕ → Type 0} {i j : ℕ} → ((k : ℕ) → i ≤ k → k < j → P k → ⊥) → (P j → ⊥) → (k : ℕ) → i ≤ k → k < j + 1 → P k → ⊥
-free_more {P} {i} {j} f g k u v p = ⊎_elim (λ (o : k < j). f k u o p) (λ (o : j ≤ k). let e : k ≡ j = omega arith in g (subst P e p)) (lt_or_ge k j)
-
-pub free_less : {P : ℕ → Type 0} {i j m : ℕ} → ((k : ℕ) → j ≤ k → k < i → P k → ⊥) → j ≡ m + 1 → (P m → ⊥) → (k : ℕ) → m ≤ k → k < i → P k → ⊥
-free_less {P} {i} {j} {m} f q g k u v p = ⊎_elim (λ (o : m < k). f k (omega arith) v p) (λ (o : k ≤ m). let e : k ≡ m = omega arith in g (subst P e p)) (lt_or_ge m k)

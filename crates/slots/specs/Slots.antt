@@ -1,5 +1,5 @@
 -- The working slice by its first n tiles: what its stores, moves and look-ups promise. No picture is named here.
-use Rattle.std.specs.Prelude.{ℕ, ◌+◌, ◌-◌, ◌≤◌, ◌<◌, ◌≡◌, ◌⊎◌, List, length}
+use Rattle.std.specs.Prelude.{Option, Some, None, ℕ, ◌+◌, ◌-◌, ◌≤◌, ◌<◌, ◌≡◌, ◌⊎◌, List, length}
 use Rattle.plane.specs.declared.tile.Tile.{Tile}
 use Rattle.plane.specs.Strips.{Holds, Precedes}
 use Rattle.plane.specs.Words.{tile_of}
@@ -48,11 +48,10 @@ pub record WithTile (ws vs : List ℕ) (n : ℕ) (t : Tile) : Type 0 where
   pub old : (i : ℕ) → i < n → Has vs (n + 1) (tile_of ws i)
   pub only : (j : ℕ) → j < n + 1 → (tile_of vs j ≡ t) ⊎ Has ws n (tile_of vs j)
 
--- r is the number, from i up to n, of a tile that holds (x,y); or n where there is none
-pub record Sought (ws : List ℕ) (i n x y r : ℕ) : Type 0 where
-  pub most : r ≤ n
-  pub held : r < n → Holds (tile_of ws r) x y
-  pub none : n ≤ r → (j : ℕ) → i ≤ j → j < n → Holds (tile_of ws j) x y → ⊥
+-- a look-up among the tiles from i up to n: the number of one that holds (x,y), or none does
+abbrev pub Sought : List ℕ → ℕ → ℕ → ℕ → ℕ → Option ℕ → Type 0
+Sought ws i n x y (Some r) = (r < n) × Holds (tile_of ws r) x y
+Sought ws i n x y None = (j : ℕ) → i ≤ j → j < n → Holds (tile_of ws j) x y → ⊥
 
 -- tile k is one of the first n, and holds (x,y)
 pub record Holder (ws : List ℕ) (n k x y : ℕ) : Type 0 where

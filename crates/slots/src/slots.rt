@@ -1,131 +1,130 @@
-// The words of the working slice: its first n tiles put, moved and looked up. No picture is named here.
-ghost use Rattle.std.specs.Prelude.{◌+◌, ◌-◌, ◌*◌, ◌<◌, ◌≤◌, length};
-ghost use Rattle.plane.specs.Words.{Says};
+// The words of the working slice: its first tiles put, moved and looked up. No picture is named here.
+ghost use Rattle.std.specs.Prelude.{◌+◌, ◌-◌, ◌*◌, ◌<◌, ◌≤◌, ◌≡◌, length};
+ghost use Rattle.plane.specs.Words.{count, tile_of, Says};
 ghost use Rattle.slots.specs.Slots.{InOrderTo, PutTile, PlaceOf, ShiftedUp, Appended, Fresh, WithTile, Sought, Holder, Under, Past, Sorted};
 
-use plane::tile::{Tile, holds, precedes};
+use plane::table::Table;
+use plane::tile::Tile;
 use plane::words::nth_tile;
 
-// Sets tile i to t.
-pub fn put_tile(work: &mut [u16], i: usize, t: Tile)
-    requires { 4 + 9 * i + 9 ≤ length work.old }
-    ensures { PutTile work.old work.new i t }
-{
-    let at = 4 + 9 * i;
-    work[at] = t.left;
-    work[at + 1] = t.bottom;
-    work[at + 2] = t.right;
-    work[at + 3] = t.top;
-    work[at + 4] = t.kind;
+// The first tiles of a slice, to be read: the words, and how many tiles count.
+#[derive(Clone, Copy)]
+pub struct Slots<'a> {
+    pub words: &'a [u16],
+    pub count: usize,
+    pub ghost whole: { 4 + 9 * count ≤ length words.now },
 }
 
-// How many of the first n tiles come before t, by halves.
-pub fn place_of(work: &[u16], n: usize, t: Tile) -> usize
-    requires n_in_bounds { 4 + 9 * n ≤ length work.now }
-    requires in_order_to { InOrderTo work.now n }
-    ensures { PlaceOf work.now n t result }
-{
-    let mut i = 0;
-    let mut j = n;
-    while i < j {
-        let m = i + (j - i) / 2;
-        if precedes(nth_tile(work, m), t) {
-            i = m + 1;
-        } else {
-            j = m;
+impl<'a> Slots<'a> {
+    // The tiles of a table.
+    pub fn of(table: &Table<'a>) -> Slots<'a>
+        ensures { (result.words.now ≡ table.now) × (result.count ≡ count table.now) }
+    {
+        Slots {
+            words: table.words(),
+            count: usize::from(table.count()),
         }
     }
-    i
-}
 
-// Moves the tiles from .. to-1 up by one place.
-pub fn shift(work: &mut [u16], from: usize, to: usize)
-    requires { (from ≤ to) × (4 + 9 * to + 9 ≤ length work.old) }
-    ensures { ShiftedUp work.old work.new from to }
-{
-    let mut j = to;
-    while from < j {
-        j -= 1;
-        put_tile(work, j + 1, nth_tile(work, j));
+    // Tile i.
+    pub fn nth(self, i: usize) -> Tile
+        requires { i < self.count }
+        ensures { result ≡ tile_of self.entry.words.now i }
+    {
+        nth_tile(self.words, i)
     }
-}
 
-// Puts the tiles j .. n-1 of t behind the first m, word by word.
-pub fn append(t: &[u16], j: usize, n: usize, work: &mut [u16], m: usize)
-    requires { (j ≤ n) × (4 + 9 * n ≤ length t.now) × (4 + 9 * (m + (n - j)) ≤ length work.old) }
-    ensures { Appended t.now j n work.old m work.new }
-{
-    let end = 4 + 9 * n;
-    let mut i = 4 + 9 * j;
-    let mut k = 4 + 9 * m;
-    while i < end {
-        work[k] = t[i];
-        i += 1;
-        k += 1;
-    }
-}
-
-// Puts t among the first n tiles, at its place.
-pub fn insert(work: &mut [u16], n: usize, t: Tile)
-    requires n_in_bounds { 4 + 9 * n + 9 ≤ length work.old }
-    requires in_order_to { (InOrderTo work.old n) × (Fresh work.old n t) }
-    ensures { WithTile work.old work.new n t }
-{
-    let i = place_of(work, n, t);
-    shift(work, i, n);
-    put_tile(work, i, t);
-}
-
-// The first tile from i up to n that holds (x,y), or n.
-pub fn find_on(ws: &[u16], n: usize, i: usize, x: u16, y: u16) -> usize
-    requires { (4 + 9 * n ≤ length ws.now) × (i ≤ n) }
-    ensures { Sought ws.now i n x y result }
-{
-    let mut j = i;
-    while j < n {
-        if holds(nth_tile(ws, j), x, y) {
-            return j;
+    // How many of the tiles come before t, by halves.
+    pub fn place_of(self, t: Tile) -> usize
+        requires in_order_to { InOrderTo self.words.now self.count }
+        ensures { PlaceOf self.entry.words.now self.entry.count t result }
+    {
+        let mut i = 0;
+        let mut j = self.count;
+        while i < j {
+            let m = i + (j - i) / 2;
+            if self.nth(m).precedes(t) {
+                i = m + 1;
+            } else {
+                j = m;
+            }
         }
-        j += 1;
+        i
     }
-    n
-}
 
-// The last tile below i that holds (x,y), or i.
-pub fn find_back(ws: &[u16], i: usize, x: u16, y: u16) -> usize
-    requires { 4 + 9 * i ≤ length ws.now }
-    ensures { Sought ws.now 0 i x y result }
-{
-    let mut j = i;
-    while 0 < j {
-        j -= 1;
-        if holds(nth_tile(ws, j), x, y) {
-            return j;
+    // The first tile from i on that holds (x,y).
+    pub fn find_on(self, i: usize, x: u16, y: u16) -> Option<usize>
+        ensures { Sought self.entry.words.now i self.entry.count x y result }
+    {
+        for j in i..self.count {
+            if self.nth(j).holds(x, y) {
+                return Some(j);
+            }
         }
+        None
     }
-    i
-}
 
-// Is tile k one of the first n, and does it hold (x,y)?
-pub fn held_at(work: &[u16], n: usize, k: usize, x: u16, y: u16) -> bool
-    requires { 4 + 9 * n ≤ length work.now }
-    ensures { Says result (Holder work.now n k x y) }
-{
-    if n <= k {
-        return false;
+    // The last tile below i that holds (x,y).
+    pub fn find_back(self, i: usize, x: u16, y: u16) -> Option<usize>
+        requires { i ≤ self.count }
+        ensures { Sought self.entry.words.now 0 i x y result }
+    {
+        for j in (0..i).rev() {
+            if self.nth(j).holds(x, y) {
+                return Some(j);
+            }
+        }
+        None
     }
-    holds(nth_tile(work, k), x, y)
-}
 
-// Is tile k one of the first n, and does it hold the square under (x,y)?
-pub fn is_under(work: &[u16], n: usize, k: usize, x: u16, y: u16) -> bool
-    requires { 4 + 9 * n ≤ length work.now }
-    ensures { Says result (Under work.now n k x y) }
-{
-    if y == 0 {
-        return false;
+    // Is there a tile k, and does it hold (x,y)?
+    pub fn held_at(self, k: usize, x: u16, y: u16) -> bool
+        ensures { Says result (Holder self.entry.words.now self.entry.count k x y) }
+    {
+        k < self.count && self.nth(k).holds(x, y)
     }
-    held_at(work, n, k, x, y - 1)
+
+    // Is there a tile k, and does it hold the square under (x,y)?
+    pub fn is_under(self, k: usize, x: u16, y: u16) -> bool
+        ensures { Says result (Under self.entry.words.now self.entry.count k x y) }
+    {
+        0 < y && self.held_at(k, x, y - 1)
+    }
+
+    // A guess at the tile that holds the square under (x,y): tile k if it does. A guess is any number, since it is tested where it is used.
+    pub fn under(self, k: usize, x: u16, y: u16) -> usize
+        requires x_bound { x < 65535 }
+        requires in_order_to { InOrderTo self.words.now self.count }
+    {
+        if y == 0 || self.is_under(k, x, y) {
+            return k;
+        }
+        let i = self.place_of(past(x, y - 1));
+        self.find_back(i, x, y - 1).unwrap_or(self.count)
+    }
+
+    // A tile that holds (x,y). Where tile k holds the square under (x,y), it is tile k or the last that begins at (x,y) or before it, or there
+    // is none.
+    pub fn find_low(self, k: usize, x: u16, y: u16) -> Option<usize>
+        requires x_bound { x < 65535 }
+        requires sorted { Sorted self.words.now self.count }
+        ensures { Sought self.entry.words.now 0 self.entry.count x y result }
+    {
+        if self.held_at(k, x, y) {
+            return Some(k);
+        }
+        let i = self.place_of(past(x, y));
+        if i == 0 {
+            return None;
+        }
+        if self.held_at(i - 1, x, y) {
+            return Some(i - 1);
+        }
+        if self.is_under(k, x, y) {
+            return None;
+        }
+        self.find_back(i, x, y)
+    }
 }
 
 // What comes after every tile that begins at (x,y) or before it.
@@ -142,47 +141,49 @@ pub fn past(x: u16, y: u16) -> Tile
     }
 }
 
-// A guess at the tile that holds the square under (x,y): tile k if it does.
-pub fn under(work: &[u16], n: usize, k: usize, x: u16, y: u16) -> usize
-    requires n_in_bounds { (4 + 9 * n ≤ length work.now) × (x < 65535) }
-    requires in_order_to { InOrderTo work.now n }
+// Sets tile i to t.
+pub fn put_tile(work: &mut [u16], i: usize, t: Tile)
+    requires { 4 + 9 * i + 9 ≤ length work.old }
+    ensures { PutTile work.old work.new i t }
 {
-    if is_under(work, n, k, x, y) {
-        return k;
-    }
-    if y == 0 {
-        return n;
-    }
-    let s = past(x, y - 1);
-    let i = place_of(work, n, s);
-    find_back(work, i, x, y - 1)
+    let at = 4 + 9 * i;
+    work[at] = t.left;
+    work[at + 1] = t.bottom;
+    work[at + 2] = t.right;
+    work[at + 3] = t.top;
+    work[at + 4] = t.kind;
 }
 
-// A tile of the first n that holds (x,y); n where there is none. Where tile k holds the square under (x,y), it is tile k
-// or the last that begins at (x,y) or before it, or there is none.
-pub fn find_low(work: &[u16], n: usize, k: usize, x: u16, y: u16) -> usize
-    requires n_in_bounds { (4 + 9 * n ≤ length work.now) × (x < 65535) }
-    requires sorted { Sorted work.now n }
-    ensures { Sought work.now 0 n x y result }
+// Moves the tiles from .. to-1 up by one place.
+pub fn shift(work: &mut [u16], from: usize, to: usize)
+    requires { (from ≤ to) × (4 + 9 * to + 9 ≤ length work.old) }
+    ensures { ShiftedUp work.old work.new from to }
 {
-    if held_at(work, n, k, x, y) {
-        return k;
-    }
-    let s = past(x, y);
-    let i = place_of(work, n, s);
-    if i == 0 {
-        return n;
-    }
-    let j = i - 1;
-    if held_at(work, n, j, x, y) {
-        return j;
-    }
-    if is_under(work, n, k, x, y) {
-        return n;
-    }
-    let m = find_back(work, i, x, y);
-    if m < i {
-        return m;
-    }
-    n
+    let at = 4 + 9 * from;
+    work.copy_within(at..4 + 9 * to, at + 9);
+}
+
+// Puts the tiles of t from j on behind the first m, word by word.
+pub fn append(t: Slots<'_>, j: usize, work: &mut [u16], m: usize)
+    requires { (j ≤ t.count) × (4 + 9 * (m + (t.count - j)) ≤ length work.old) }
+    ensures { Appended t.entry.words.now j t.entry.count work.old m work.new }
+{
+    let at = 4 + 9 * m;
+    let end = at + 9 * (t.count - j);
+    work[at..end].copy_from_slice(&t.words[4 + 9 * j..4 + 9 * t.count]);
+}
+
+// Puts t among the first n tiles, at its place.
+pub fn insert(work: &mut [u16], n: usize, t: Tile)
+    requires n_in_bounds { 4 + 9 * n + 9 ≤ length work.old }
+    requires in_order_to { (InOrderTo work.old n) × (Fresh work.old n t) }
+    ensures { WithTile work.old work.new n t }
+{
+    let tiles = Slots {
+        words: work,
+        count: n,
+    };
+    let i = tiles.place_of(t);
+    shift(work, i, n);
+    put_tile(work, i, t);
 }

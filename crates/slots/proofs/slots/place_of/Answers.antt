@@ -1,8 +1,0 @@
--- By halves: `PlaceIn`, the tiles below i come before t and tile j does not.
-use native.Mathlib.Omega.{arith}
-use Rattle.plane.specs.Strips.{Precedes}
-use Rattle.slots.proofs.Places.{place_up, said_yes}
-use Rattle.slots.proofs.slots.place_of.Goals as goal
-
-pub loop-i-preserved-then-precedes : goal.loop-i-preserved-then-precedes
-loop-i-preserved-then-precedes c = place_up c.requires.in_order_to c.loop-i.invariant (omega (arith, c.loop-i-test.true)) (said_yes (λ u. Precedes u c.args.t) c.precedes.ensures c.nth_tile.ensures c.if-precedes.true)
