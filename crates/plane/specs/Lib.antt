@@ -8,4 +8,5 @@ pub mod Answers
 pub mod Point
 pub mod Listing
 pub mod Area
+pub mod Sides
 pub mod Fill

@@ -6,6 +6,7 @@ mod area;
 pub mod fill;
 mod find;
 pub mod listing;
+pub mod side;
 pub mod table;
 pub mod tile;
 pub mod words;
