@@ -12,9 +12,9 @@ use Rattle.plane.proofs.Basics.{and_left, and_right, lt_or_ge, is_false}
 use Rattle.plane.proofs.Runs.{Extent, extent_is}
 use Rattle.rules.specs.Some.{some}
 use Rattle.rules.proofs.Searches.{some_at, some_has, some_same}
-use Rattle.waits.specs.declared.waits.Block.{Block}
-use Rattle.waits.specs.declared.waits.Block.TheVariants.{At, Nothing}
-use Rattle.waits.specs.Pieces.{blocks, some_in, in_window, waits_at, piece_waits, lowest_piece, lowest_block, Lowest, LowestOf}
+use Rattle.std.specs.Prelude.{Option, Some, None}
+use Rattle.waits.specs.declared.block.Block.{Block}
+use Rattle.waits.specs.Pieces.{block, blocks, some_in, in_window, waits_at, piece_waits, lowest_piece, lowest_block, Lowest, LowestOf}
 
 -- ---- a search in a block
 -- (x,y) is a square of the block at column bx, row by, and passes
@@ -151,7 +151,7 @@ module _ (w h : ℕ) (p : Picture) where
   unfolding lowest_block
   lowest_is = go (ltb (lowest_piece w h p) (blocks w * blocks h)) refl
     where
-      go : (b : Bool) → ltb (lowest_piece w h p) (blocks w * blocks h) ≡ b → LowestOf w h p (cond b (At (lowest_piece w h p % blocks w) (lowest_piece w h p / blocks w)) Nothing)
+      go : (b : Bool) → ltb (lowest_piece w h p) (blocks w * blocks h) ≡ b → LowestOf w h p (cond b (Some (block (lowest_piece w h p % blocks w) (lowest_piece w h p / blocks w))) None)
       go true e = lowest_found (ltb-true (lowest_piece w h p) (blocks w * blocks h) e)
       go false e = none_found (ltb-false (lowest_piece w h p) (blocks w * blocks h) e)
 
@@ -162,15 +162,15 @@ module _ (w h : ℕ) (p : Picture) where
       (λ u. ⊎_elim (λ v. absurd (omega arith)) (λ v. (omega arith, omega arith)) (b.least ax ay a.waits))
       (a.least bx by b.waits)
 
-  lowest_same : (a b : Block) → LowestOf w h p a → LowestOf w h p b → a ≡ b
-  lowest_same (At ax ay) (At bx by) l m = let e = lowest_one l m in ap₂ At e.0 e.1
-  lowest_same (At ax ay) Nothing l m = absurd (true≢false (sym l.waits ∙ m ax ay))
-  lowest_same Nothing (At bx by) l m = absurd (true≢false (sym m.waits ∙ l bx by))
-  lowest_same Nothing Nothing l m = refl
+  lowest_same : (a b : Option Block) → LowestOf w h p a → LowestOf w h p b → a ≡ b
+  lowest_same (Some a) (Some b) l m = let e = lowest_one l m in ap Some (ap₂ block e.0 e.1)
+  lowest_same (Some a) None l m = absurd (true≢false (sym l.waits ∙ m a.x a.y))
+  lowest_same None (Some b) l m = absurd (true≢false (sym m.waits ∙ l b.x b.y))
+  lowest_same None None l m = refl
 
   -- in words, and back
-  pub lowest_block_lem : (b : Block) → b ≡ lowest_block w h p → LowestOf w h p b
+  pub lowest_block_lem : (b : Option Block) → b ≡ lowest_block w h p → LowestOf w h p b
   lowest_block_lem b e = rw e lowest_is
 
-  pub block_lowest : (b : Block) → LowestOf w h p b → b ≡ lowest_block w h p
+  pub block_lowest : (b : Option Block) → LowestOf w h p b → b ≡ lowest_block w h p
   block_lowest b l = lowest_same b (lowest_block w h p) l lowest_is

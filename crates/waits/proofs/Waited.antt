@@ -1,5 +1,6 @@
 -- From waiting tiles to waiting pieces: a piece waits exactly if a waiting tile crosses it. So the least corner of a waiting tile is the lowest piece, and rows of columns count them.
 use Prim.Native.Nat.{ℕ, zero, suc, ◌+◌, ◌*◌, ◌/◌, ◌%◌, ◌<◌, ◌≤◌, min, max}
+use native.Mathlib.Numerals.{add-one}
 use native.Mathlib.Omega.{arith}
 use mathlib.Core.Bool.{Bool, true, false, cond, true≢false}
 use mathlib.Core.List.{List}
@@ -14,10 +15,11 @@ use Rattle.plane.specs.Plane.{Plane}
 use Rattle.plane.proofs.Basics.{lt_or_ge, eq_or_ne, is_false}
 use Rattle.plane.proofs.Counting.{sum_eq}
 use Rattle.plane.proofs.ToTable.{shown}
-use Rattle.waits.specs.declared.waits.Block.TheVariants.{At, Nothing}
-use Rattle.plane.specs.Fill.{Filled}
-use Rattle.waits.specs.Pieces.{blocks, waits_at, pieces, piece_waits, waiting_pieces, lowest_block, Lowest}
-use Rattle.waits.specs.Waits.{WaitingRow, Crosses, key_of, KeyOf, Least, MarksTile, Columns, sum_of}
+use Rattle.std.specs.Prelude.{Some, None, count_by, take}
+use Rattle.std.proofs.lemmas.List.{take_more}
+use Rattle.std.proofs.lemmas.List.Sums.{sum_by_push}
+use Rattle.waits.specs.Pieces.{block, blocks, waits_at, pieces, piece_waits, waiting_pieces, lowest_block, Lowest}
+use Rattle.waits.specs.Waits.{WaitingRow, Crosses, key_of, Least, LeastKey, MarksTile, Columns}
 use Rattle.waits.proofs.Blocks.{some_in_has, some_in_at, waits_at_lem, waits_in, waits_inside, block_lowest}
 
 module _ (ws : List ℕ) (P : Plane ws) where
@@ -123,19 +125,19 @@ module _ (ws : List ℕ) (P : Plane ws) where
       omega (arith, P.header.sizes.tall_most))
 
   -- what the least key says
-  pub least_block : (m : ℕ) → Least ws (count ws) m → m < 65536 → At (m % 256) (m / 256) ≡ lowest_block (width ws) (height ws) (picture_of ws)
-  least_block m l small = block_lowest (width ws) (height ws) (picture_of ws) (At (m % 256) (m / 256)) (lowest_at m l small)
+  pub least_block : (m : ℕ) → LeastKey ws (Some m) → Some (block (m % 256) (m / 256)) ≡ lowest_block (width ws) (height ws) (picture_of ws)
+  least_block m l = block_lowest (width ws) (height ws) (picture_of ws) (Some (block (m % 256) (m / 256))) (lowest_at m l.1 l.0)
 
-  pub least_nothing : (m : ℕ) → Least ws (count ws) m → 65536 ≤ m → Nothing ≡ lowest_block (width ws) (height ws) (picture_of ws)
-  least_nothing m l big = block_lowest (width ws) (height ws) (picture_of ws) Nothing (lowest_none m l big)
+  pub least_nothing : LeastKey ws None → None ≡ lowest_block (width ws) (height ws) (picture_of ws)
+  least_nothing l = block_lowest (width ws) (height ws) (picture_of ws) None (lowest_none 65536 l (omega arith))
 
   -- ---- a row
   -- with all tiles marked, the columns of a row of pieces are those that wait
-  pub columns_wait : {by : ℕ} {cs : List ℕ} → Columns ws by (count ws) cs → WaitingRow (width ws) (height ws) (picture_of ws) by cs
+  pub columns_wait : {by : ℕ} {cs : List Bool} → Columns ws by (count ws) cs → WaitingRow (width ws) (height ws) (picture_of ws) by cs
   unfolding waiting
   columns_wait {by} {cs} c = record { long = c.long; each = λ bx l. go bx l (waiting bx by) refl }
     where
-      go : (bx : ℕ) → bx < 256 → (b : Bool) → waiting bx by ≡ b → get_or cs bx 0 ≡ cond b 1 0
+      go : (bx : ℕ) → bx < 256 → (b : Bool) → waiting bx by ≡ b → get_or cs bx false ≡ b
       go bx l true e = let j = crosser bx by e in c.yes bx l j.0 j.1 j.2
       go bx l false e = c.no bx l (λ j u x. true≢false (sym (crossed j bx by u x) ∙ e))
 
@@ -153,15 +155,22 @@ bits_most (suc n) f = let q = bits_most n f in let z : cond (f n) 1 0 ≤ 1 = on
     one true = omega arith
     one false = omega arith
 
--- the sum of a row's columns, for a width that the code has read
-pub row_is : {ws : List ℕ} {y : ℕ} {cs : List ℕ} {v r : ℕ} → Plane ws → WaitingRow (width ws) (height ws) (picture_of ws) y cs → r ≡ sum_of cs ((v + 15) / 16) → v ≡ width ws
+-- how many of the first n columns wait
+count_to : (n : ℕ) (cs : List Bool) → n ≤ length cs → count_by (λ b. b) (take n cs) ≡ sum_to n (λ i. cond (get_or cs i false) 1 0)
+unfolding sum_to
+count_to zero cs l = refl
+count_to (suc n) cs l = rw (← add-one n, take_more cs n false (omega arith), sum_by_push (λ b. cond b 1 0) (take n cs) (get_or cs n false)) (omega (arith, count_to n cs (omega arith)))
+
+-- how many pieces of a row wait, for columns that the code has counted
+pub row_is : {ws : List ℕ} {y n r : ℕ} {cs : List Bool} → Plane ws → WaitingRow (width ws) (height ws) (picture_of ws) y cs → n ≡ blocks (width ws) → r ≡ count_by (λ b. b) (take n cs)
     → (r ≡ row_waiting (width ws) (height ws) (picture_of ws) y) × (r ≤ 256)
 unfolding row_waiting
-row_is {ws} {y} {cs} {v} {r} P c e f =
+row_is {ws} {y} {n} {r} {cs} P c e f =
+    let l : n ≤ 256 = omega (arith, P.header.sizes.wide_most) in
     let q : r ≡ row_waiting (width ws) (height ws) (picture_of ws) y =
-    e ∙ ap (λ z. sum_of cs ((z + 15) / 16)) f
-    ∙ sum_eq (blocks (width ws)) (λ i. get_or cs i 0) (λ bx. cond (piece_waits (width ws) (height ws) (picture_of ws) bx y) 1 0) (λ i l. c.each i (omega (arith, P.header.sizes.wide_most))) in
-    (q, omega (arith, q, bits_most (blocks (width ws)) (λ bx. piece_waits (width ws) (height ws) (picture_of ws) bx y), P.header.sizes.wide_most))
+    f ∙ count_to n cs (omega (arith, c.long)) ∙ sum_eq n (λ i. cond (get_or cs i false) 1 0) (λ bx. cond (piece_waits (width ws) (height ws) (picture_of ws) bx y) 1 0) (λ i m. ap (λ b. cond b 1 0) (c.each i (omega arith)))
+    ∙ ap (λ z. sum_to z (λ bx. cond (piece_waits (width ws) (height ws) (picture_of ws) bx y) 1 0)) e in
+    (q, omega (arith, q, bits_most (blocks (width ws)) (λ bx. piece_waits (width ws) (height ws) (picture_of ws) bx y)))
 
 -- the sum of all rows
 pub rows_none : (w h : ℕ) (p : Picture) → sum_to 0 (row_waiting w h p) ≡ 0
@@ -176,37 +185,31 @@ rows_all w h p = refl
 pub least_none : (ws : List ℕ) → Least ws 0 65536
 least_none ws = record { most = omega arith; each = λ j l n. absurd (omega arith); found = λ l. absurd (omega arith) }
 
-pub least_more : {ws : List ℕ} {i m r : ℕ} → Least ws i m → KeyOf ws i r → Least ws (i + 1) (min m r)
-least_more {ws} {i} {m} {r} l k = record {
+-- a tile more, which does not wait
+pub least_idle : {ws : List ℕ} {i m : ℕ} {t : Tile} → t ≡ tile_of ws i → Least ws i m → t.kind ≡ 0 → Least ws (i + 1) m
+least_idle {ws} {i} {m} {t} s l k = let z = (rw s at k) in record {
+  most = l.most;
+  each = λ j u n. ⊎_elim (λ (v : j < i). l.each j v n) (λ (v : i ≤ j). let e : j ≡ i = omega arith in absurd (n (rw e z))) (lt_or_ge j i);
+  found = λ u. let f = l.found u in (f.0, omega (arith, f.1), f.2, f.3);
+}
+
+-- or waits
+pub least_more : {ws : List ℕ} {i m r : ℕ} {t : Tile} → t ≡ tile_of ws i → Least ws i m → (t.kind ≡ 0 → ⊥) → r ≡ key_of t → Least ws (i + 1) (min m r)
+least_more {ws} {i} {m} {r} {t} s l k f = let n = (rw s at k) in let e = (rw s at f) in record {
   most = omega (arith, l.most);
-  each = λ j u n. ⊎_elim
-      (λ (v : j < i). let b = l.each j v n in omega arith)
-      (λ (v : i ≤ j). let e : j ≡ i = omega arith in rw e (let q = k.some (λ z. n (rw e z)) in omega arith))
+  each = λ j u k. ⊎_elim
+      (λ (v : j < i). let b = l.each j v k in omega arith)
+      (λ (v : i ≤ j). let q : j ≡ i = omega arith in rw q (omega (arith, e)))
       (lt_or_ge j i);
   found = λ u. ⊎_elim
-      (λ (v : m < 65536). ⊎_elim
-      (λ (a : m < r). let f = l.found v in (f.0, omega (arith, f.1), f.2, (let e : min m r ≡ m = omega arith in e ∙ f.3)))
-      (λ (a : r ≤ m). this (omega arith) (omega arith))
-      (lt_or_ge m r))
-      (λ (v : 65536 ≤ m). this (omega arith) (omega arith))
-      (lt_or_ge m 65536);
+      (λ (a : m < r). let f = l.found (omega arith) in (f.0, omega (arith, f.1), f.2, (let q : min m r ≡ m = omega arith in q ∙ f.3)))
+      (λ (a : r ≤ m). let q : min m r ≡ r = omega arith in (i, omega arith, n, q ∙ e))
+      (lt_or_ge m r);
 }
-  where
-    this : min m r ≡ r → r < 65536 → (j : ℕ) × (j < i + 1) × (word ws j 4 ≡ 0 → ⊥) × (min m r ≡ key_of ws j)
-    this e u = let n : word ws i 4 ≡ 0 → ⊥ = (λ z. let q = k.none z in omega arith) in (i, omega arith, n, e ∙ k.some n)
 
 -- ---- columns
--- a waiting tile on the row, by the numbers that the code has read
-pub marks_span : {t : Tile} {by : ℕ} {m m₁ : List ℕ} {b u l r : ℕ} → length m ≡ 256 → (t.kind ≡ 0 → ⊥) → b ≡ t.bottom → b < 16 * by + 16 → u ≡ t.top → 16 * by < u → l ≡ t.left → r ≡ t.right
-    → Filled 1 (l / 16) ((r + 15) / 16) m m₁ → MarksTile t by m m₁
-marks_span e n bottom low top high left right f = record {
-  long = f.long;
-  yes = λ bx l c. f.here bx (omega arith) (omega (arith, c.from_left)) (omega (arith, c.to_right));
-  no = λ bx l g. f.else bx (λ p q. g (record { waits = n; from_left = omega arith; to_right = omega arith; from_bottom = omega arith; to_top = omega arith }));
-}
-
-pub columns_none : (ws : List ℕ) (by : ℕ) → Columns ws by 0 (replicate 256 0)
-columns_none ws by = record { long = length-replicate {A = ℕ} 256 0; yes = λ bx l j u c. absurd (omega arith); no = λ bx l f. get_or-replicate 256 bx 0 0 l }
+pub columns_none : (ws : List ℕ) (by : ℕ) → Columns ws by 0 (replicate 256 false)
+columns_none ws by = record { long = length-replicate {A = Bool} 256 false; yes = λ bx l j u c. absurd (omega arith); no = λ bx l f. get_or-replicate 256 bx false false l }
 
 crosses_dec : (t : Tile) (bx by : ℕ) → Crosses t bx by ⊎ (Crosses t bx by → ⊥)
 crosses_dec t bx by = ⊎_elim
@@ -222,7 +225,7 @@ crosses_dec t bx by = ⊎_elim
     (λ (a : 16 * bx + 16 ≤ t.left). inr (λ c. omega (arith, c.from_left))) (lt_or_ge t.left (16 * bx + 16)))
     (eq_or_ne t.kind 0)
 
-pub columns_more : {ws : List ℕ} {by i : ℕ} {m m₁ : List ℕ} (t : Tile) → t ≡ tile_of ws i → Columns ws by i m → MarksTile t by m m₁ → Columns ws by (i + 1) m₁
+pub columns_more : {ws : List ℕ} {by i : ℕ} {m m₁ : List Bool} (t : Tile) → t ≡ tile_of ws i → Columns ws by i m → MarksTile t by m m₁ → Columns ws by (i + 1) m₁
 columns_more {ws} {by} {i} {m} {m₁} t same c k = record {
   long = k.long ∙ c.long;
   yes = λ bx l j u x. ⊎_elim

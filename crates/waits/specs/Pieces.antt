@@ -1,10 +1,13 @@
 -- The pieces of a window, blocks of 16 by 16 squares: which of them wait or are touched, the lowest, and how many they are.
-use Rattle.std.specs.Prelude.{ℕ, ◌+◌, ◌*◌, ◌/◌, ◌%◌, ◌<◌, ◌≤◌, Bool, true, false, not, cond, ◌&&◌, ◌≡◌, ◌⊎◌, eqb, ltb}
+use Rattle.std.specs.Prelude.{ℕ, ◌+◌, ◌*◌, ◌/◌, ◌%◌, ◌<◌, ◌≤◌, Bool, true, false, not, cond, ◌&&◌, ◌≡◌, ◌⊎◌, eqb, ltb, Option, Some, None}
 use Rattle.plane.specs.declared.tile.Area.{Area}
 use Rattle.plane.specs.Picture.{Picture, extent, in_area, sum_to}
 use Rattle.rules.specs.Some.{some}
-use Rattle.waits.specs.declared.waits.Block.{Block}
-use Rattle.waits.specs.declared.waits.Block.TheVariants.{At, Nothing}
+use Rattle.waits.specs.declared.block.Block.{Block}
+
+-- the piece at column bx, row by
+abbrev pub block : ℕ → ℕ → Block
+block bx by = record { x = bx; y = by }
 
 -- how many blocks lie side by side over n squares
 abbrev pub blocks : ℕ → ℕ
@@ -47,9 +50,9 @@ unfoldable pub lowest_piece : ℕ → ℕ → Picture → ℕ
 lowest_piece w h p = extent (λ n. not (piece_waits w h p (n % blocks w) (n / blocks w))) 0 (blocks w * blocks h)
 
 -- that piece by column and row
-unfoldable pub lowest_block : ℕ → ℕ → Picture → Block
+unfoldable pub lowest_block : ℕ → ℕ → Picture → Option Block
 lowest_block w h p =
-    cond (ltb (lowest_piece w h p) (blocks w * blocks h)) (At (lowest_piece w h p % blocks w) (lowest_piece w h p / blocks w)) Nothing
+    cond (ltb (lowest_piece w h p) (blocks w * blocks h)) (Some (block (lowest_piece w h p % blocks w) (lowest_piece w h p / blocks w))) None
 
 -- the same in words: it waits, and each other that waits is in a higher row, or in its row and further right
 pub record Lowest (w h : ℕ) (p : Picture) (bx by : ℕ) : Type 0 where
@@ -58,6 +61,6 @@ pub record Lowest (w h : ℕ) (p : Picture) (bx by : ℕ) : Type 0 where
   pub waits : piece_waits w h p bx by ≡ true
   pub least : (cx cy : ℕ) → piece_waits w h p cx cy ≡ true → (by < cy) ⊎ ((by ≡ cy) × (bx ≤ cx))
 
-abbrev pub LowestOf : ℕ → ℕ → Picture → Block → Type 0
-LowestOf w h p (At bx by) = Lowest w h p bx by
-LowestOf w h p Nothing = (bx by : ℕ) → piece_waits w h p bx by ≡ false
+abbrev pub LowestOf : ℕ → ℕ → Picture → Option Block → Type 0
+LowestOf w h p (Some b) = Lowest w h p b.x b.y
+LowestOf w h p None = (bx by : ℕ) → piece_waits w h p bx by ≡ false

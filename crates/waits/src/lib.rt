@@ -1,4 +1,5 @@
 // Which pieces of a window wait.
 #![tactic(auto)]
 
+pub mod block;
 pub mod waits;

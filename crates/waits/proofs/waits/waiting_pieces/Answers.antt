@@ -8,21 +8,18 @@ use Prim.Native.Nat.{◌+◌, ◌/◌}
 use Rattle.waits.proofs.waits.waiting_pieces.Goals as goal
 
 pub loop-y-init : goal.loop-y-init
-loop-y-init c = let t = c.args.t.now in (omega arith, omega arith, sym (rows_none (width t) (height t) (picture_of t)))
-
-pub overflow_add-n : goal.overflow_add-n
-overflow_add-n c =
-    let r = row_is c.requires c.row_of-cs.ensures c.sum_of-n.ensures c.wide.ensures in
-    omega (arith, c.requires.header.sizes.tall_most)
+loop-y-init c = let t = c.args.t.now in (omega arith, sym (rows_none (width t) (height t) (picture_of t)))
 
 pub loop-y-preserved : goal.loop-y-preserved
 loop-y-preserved c =
     let t = c.args.t.now in
-    let r = row_is c.requires c.row_of-cs.ensures c.sum_of-n.ensures c.wide.ensures in
-    (omega arith, omega arith, sum_more (row_waiting (width t) (height t) (picture_of t)) c.loop-y.y c.loop-y.invariant.2 r.0)
+    let w : c.width.result ≡ width t = rw (← c.of-table.ensures) c.width.ensures.value in
+    let r = row_is c.requires c.row_of.ensures (omega arith) c.count_waiting-sum.ensures.value in
+    (omega arith, sum_more (row_waiting (width t) (height t) (picture_of t)) c.loop-y.y c.loop-y.invariant.1 r.0)
 
 pub returns : goal.returns
 returns c =
     let t = c.args.t.now in
+    let h : c.height.result ≡ height t = rw (← c.of-table.ensures) c.height.ensures.value in
     let e : c.loop-y.y ≡ (height t + 15) / 16 = omega arith in
-    ((rw e at c.loop-y.invariant.2) ∙ rows_all (width t) (height t) (picture_of t), omega (arith, c.requires.header.sizes.tall_most))
+    ((rw e at c.loop-y.invariant.1) ∙ rows_all (width t) (height t) (picture_of t), omega (arith, c.requires.header.sizes.tall_most))
