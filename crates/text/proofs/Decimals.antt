@@ -10,8 +10,7 @@ use lib.ListN.{length, length-append}
 use borrow.Author.Tests.{lt-ltb, le-ltb, ltb-true, le-leb}
 use Rattle.text.specs.Decimal.{decimal_in, decimal}
 use Rattle.text.specs.Number.{digit, digits, nonempty, number_of, value_from, value}
-use Rattle.text.specs.Put.{Put}
-use Rattle.text.specs.declared.number.Number.TheVariants.{Is}
+use Rattle.std.specs.Prelude.{Some}
 use Rattle.text.proofs.Numbers.{digit_true}
 
 pub decimal_none : (k n : ℕ) → k ≡ 0 → decimal_in k n ≡ []
@@ -37,10 +36,6 @@ pub decimal_length : (k n : ℕ) → length (decimal_in k n) ≤ k
 unfolding decimal_in
 decimal_length zero n = omega arith
 decimal_length (suc k) n = cond_length (ltb n 10) (48 + n) (48 + n % 10) (decimal_in k (n / 10)) k (decimal_length k (n / 10))
-
--- where the last digit goes, after those before it
-pub last_fits : (l m : List ℕ) (at p k n : ℕ) → at + k ≤ length l → length m ≡ length l → (k ≡ 0 → ⊥) → Put l m at p (decimal_in (k - 1) n) → p < length m
-last_fits l m at p k n room same some put = omega (arith, put.next, decimal_length (k - 1) n)
 
 -- ---- a printed number reads back
 value_last : (a : ℕ) (xs : List ℕ) (d : ℕ) → value_from a (xs ++ (d ∷ [])) ≡ value_from a xs * 10 + (d - 48)
@@ -94,7 +89,7 @@ pub decimal_value : (n : ℕ) → n < 10 ^ 20 → value (decimal n) ≡ n
 decimal_value n h = value_in 20 n h
 
 -- a number up to 65535 that is printed and read is itself
-pub reads_back : (n : ℕ) → n ≤ 65535 → number_of (decimal n) ≡ Is n
+pub reads_back : (n : ℕ) → n ≤ 65535 → number_of (decimal n) ≡ Some n
 reads_back n h =
     let less : n < 10 ^ 20 = omega arith in
     rw (some_digit n, digits_in 20 n, decimal_value n less, le-leb n 65535 h)

@@ -4,5 +4,4 @@ pub mod Parts
 pub mod Numbers
 pub mod Puts
 pub mod Decimals
-pub mod Lines
 pub mod Scripts

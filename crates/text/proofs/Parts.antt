@@ -1,28 +1,30 @@
 -- The bytes that pass a test at a place of a line (blanks, or a part), the parts of a line, and its end without blanks.
 use mathlib.Core.Path.{◌≡◌, refl, sym, ap, ◌∙◌}
-use mathlib.Core.Bool.{Bool, true, false, cond, not}
+use mathlib.Core.Bool.{Bool, true, false, cond, not, true≢false}
 use mathlib.Core.List.{List, [], ◌∷◌, ◌++◌}
-use Prim.Native.Nat.{ℕ, zero, suc, ◌+◌, ◌-◌, ◌<◌, ◌≤◌}
-use native.Mathlib.Numerals.{add-one}
+use Prim.Native.Nat.{ℕ, suc, ◌+◌, ◌-◌, ◌<◌, ◌≤◌}
+use native.Mathlib.Numerals.{add-one, one-add}
 use native.Mathlib.Omega.{arith}
-use lib.ListN.{length, get_or, take, drop, drop_of_length-le, length-drop, length-take}
-use lib.Seq.{drop-cons, drop-drop, take-suc, length-take-le}
-use borrow.Author.Tests.{eq-eqb, ne_eqb}
+use lib.Dec.{eqb}
+use lib.ListN.{length, take, drop, drop_of_length-le, length-drop, length-take, length-append}
+use lib.Seq.{drop-cons, drop-drop}
+use borrow.Author.Tests.{eq-eqb, ne_eqb, eqb-true}
+use Rattle.std.specs.Prelude.{reverse}
+use Rattle.std.specs.List.{prefix_len}
+use Rattle.std.proofs.lemmas.List.{reverse-reverse, length-reverse}
+use Rattle.std.proofs.lemmas.List.Folds.{length-prefix_len}
+use Rattle.std.proofs.lemmas.Grind.{reverse_onto}
 use Rattle.text.specs.Part.{blank, unblank, leading, part_length, part_end, onto, parts, parts_left, on_front, unblanked}
 
--- ---- a scan: i + leading f (drop i l) stays the same while the bytes pass the test
-module _ (f : ℕ → Bool) (l : List ℕ) (i : ℕ) where
-  pub scan_end : length l ≤ i → i ≡ i + leading f (drop i l)
-  unfolding leading
-  scan_end h = rw (drop_of_length-le l h) (omega arith)
+-- ---- the bytes in front
+-- the bytes in front that pass a test, by the library's word
+pub leading_is : (f : ℕ → Bool) (l : List ℕ) → prefix_len f l ≡ leading f l
+unfolding leading
+leading_is f [] = refl
+leading_is f (c ∷ l) = rw (leading_is f l, one-add (leading f l)) refl
 
-  pub scan_stop : i < length l → f (get_or l i 0) ≡ false → i ≡ i + leading f (drop i l)
-  unfolding leading
-  scan_stop h e = rw (drop-cons l i 0 h, e) (omega arith)
-
-  pub scan_on : i < length l → f (get_or l i 0) ≡ true → i + 1 + leading f (drop (i + 1) l) ≡ i + leading f (drop i l)
-  unfolding leading
-  scan_on h e = rw (drop-cons l i 0 h, e, add-one i) (omega arith)
+pub leading_taken : (f : ℕ → Bool) (l : List ℕ) → length (take (prefix_len f l) l) ≡ leading f l
+leading_taken f l = length-prefix_len f l ∙ leading_is f l
 
 cond_le : (b : Bool) (k n : ℕ) → k ≤ n → cond b (suc k) 0 ≤ suc n
 cond_le true k n h = omega arith
@@ -32,12 +34,6 @@ pub leading_within : (f : ℕ → Bool) (l : List ℕ) → leading f l ≤ lengt
 unfolding leading
 leading_within f [] = omega arith
 leading_within f (c ∷ l) = cond_le (f c) (leading f l) (length l) (leading_within f l)
-
-pub blank_is : (c : ℕ) → c ≡ 32 → blank c ≡ true
-blank_is c e = eq-eqb c 32 e
-
-pub blank_not : (c : ℕ) → (c ≡ 32 → ⊥) → blank c ≡ false
-blank_not c n = ne_eqb c 32 n
 
 -- ---- the first part, and those after it
 pub part_end_within : (l : List ℕ) (at : ℕ) → at ≤ length l → part_end l at ≤ length l
@@ -83,23 +79,21 @@ unfolding unblanked on_front
 unblanked_full [] d n = rw (ne_eqb d 32 n)
 unblanked_full (c ∷ l) d n = rw (unblanked_full l d n) (on_snoc c d l)
 
-take_last : (l : List ℕ) (e : ℕ) → 0 < e → e ≤ length l → take e l ≡ take (e - 1) l ++ (get_or l (e - 1) 0 ∷ [])
-take_last l e p h =
-    let s : e ≡ suc (e - 1) = omega arith in
-    let k : e - 1 < length l = omega arith in
-    ap (λ (n : ℕ). take n l) s ∙ take-suc l (e - 1) 0 k
+-- what is behind a line's last byte that is no blank, counted from its end
+reversed_by : (b : Bool) (c : ℕ) (r : List ℕ) → eqb c 32 ≡ b → length r ≡ prefix_len blank r + length (unblanked (reverse r)) → suc (length r) ≡ cond b (1 + prefix_len blank r) 0 + length (unblanked (reverse (c ∷ r)))
+reversed_by true c r e h = rw (reverse_onto r c [], unblanked_blank (reverse r) c (eqb-true c 32 e)) (omega (arith, h))
+reversed_by false c r e h = rw (reverse_onto r c [], unblanked_full (reverse r) c (λ q. true≢false (sym (eq-eqb c 32 q) ∙ e))) (omega (arith, length-append (reverse r) (c ∷ []), length-reverse r))
 
-module _ (l : List ℕ) (e : ℕ) (p : 0 < e) (h : e ≤ length l) where
-  pub unblanked_on : get_or l (e - 1) 0 ≡ 32 → unblanked (take e l) ≡ unblanked (take (e - 1) l)
-  unblanked_on b = ap unblanked (take_last l e p h) ∙ unblanked_blank (take (e - 1) l) (get_or l (e - 1) 0) b
-
-  pub unblanked_stop : (get_or l (e - 1) 0 ≡ 32 → ⊥) → e ≡ length (unblanked (take e l))
-  unblanked_stop n = sym (ap length (ap unblanked (take_last l e p h) ∙ (unblanked_full (take (e - 1) l) (get_or l (e - 1) 0) n ∙ sym (take_last l e p h))) ∙ length-take-le e l h)
-
-pub unblanked_none : (l : List ℕ) (e : ℕ) → e ≤ 0 → e ≡ length (unblanked (take e l))
+unblanked_reversed : (r : List ℕ) → length r ≡ prefix_len blank r + length (unblanked (reverse r))
 unfolding unblanked
-unblanked_none l zero h = refl
-unblanked_none l (suc e) h = absurd (omega arith)
+unblanked_reversed [] = refl
+unblanked_reversed (c ∷ r) = reversed_by (eqb c 32) c r refl (unblanked_reversed r)
+
+-- the length without the blanks at the end, where n of them were counted
+pub unblanked_counted : (l : List ℕ) (n : ℕ) → n ≡ length (take (prefix_len blank (reverse l)) (reverse l)) → length l - n ≡ length (unblanked l)
+unblanked_counted l n e =
+    let all = unblanked_reversed (reverse l) in
+    omega (arith, e, length-prefix_len blank (reverse l), all, ap (λ (k : List ℕ). length (unblanked k)) (reverse-reverse l), length-reverse l)
 
 cond_take : (b : Bool) (c : ℕ) (l : List ℕ) → take (length (cond b [] (c ∷ []))) (c ∷ l) ≡ cond b [] (c ∷ [])
 cond_take true c l = refl

@@ -1,12 +1,14 @@
 -- Bytes put one after another: what is put at a place and what is put behind it make one list that is put.
-use mathlib.Core.Path.{◌≡◌, refl, sym, ap, ap₂, ◌∙◌, subst₂}
-use mathlib.Core.List.{List, [], ◌∷◌, ◌++◌, append-nil, append_assoc}
-use Prim.Native.Nat.{ℕ, ◌+◌, ◌<◌, ◌≤◌}
-use native.Mathlib.Numerals.{add-one}
+use mathlib.Core.Path.{◌≡◌, refl, sym, ap, ap₂, ◌∙◌}
+use mathlib.Core.List.{List, [], ◌++◌, append-nil, append_assoc}
+use Prim.Native.Nat.{ℕ, ◌+◌, ◌≤◌}
 use native.Mathlib.Omega.{arith}
-use lib.ListN.{length, get_or, take, drop, set, length-append, take-append-drop}
-use lib.Seq.{take-suc, take-suc-set, take_all, drop-drop, drop-set-lt}
-use Rattle.text.specs.Put.{Put}
+use lib.ListN.{length, take, drop, length-append, take-append-drop}
+use lib.Seq.{drop-drop}
+use borrow.Rule.Slice.PartMut.{put_mid}
+use Rattle.std.proofs.lemmas.Slice.{take-put_mid, drop-put_mid}
+use Rattle.text.specs.Put.{Put, Puts}
+use Rattle.text.specs.declared.writer.Writer.{Writer}
 
 pub put_none : (l : List ℕ) (at r : ℕ) → r ≡ at → Put l l at r []
 put_none l at r e = record { next = omega arith; is = ap (λ (n : ℕ). take n l) e ∙ sym (append-nil (take at l)); rest = refl }
@@ -22,22 +24,16 @@ put_both l m o at p r xs ys f g = record {
   rest = g.rest ∙ rest_from l m p (length ys) r g.next f.rest;
 }
 
-pub put_one : (l : List ℕ) (at b : ℕ) → at < length l → Put l (set l at b) at (at + 1) (b ∷ [])
-put_one l at b h = record { next = omega arith; is = rw (add-one at) (take-suc-set l at b h); rest = drop-set-lt (at + 1) l at b (omega arith) }
-
-pub put_then : (l m : List ℕ) (at p b : ℕ) (xs : List ℕ) → Put l m at p xs → p < length m → Put l (set m p b) at (p + 1) (xs ++ (b ∷ []))
-put_then l m at p b xs f h = put_both l m (set m p b) at p (p + 1) xs (b ∷ []) f (put_one m p b h)
-
--- ---- a list put byte by byte
-pub put_next : (l m : List ℕ) (at i : ℕ) (bs : List ℕ) → i < length bs → at + i < length m → Put l m at (at + i) (take i bs) → Put l (set m (at + i) (get_or bs i 0)) at (at + (i + 1)) (take (i + 1) bs)
-put_next l m at i bs h k f =
-    let e : at + i + 1 ≡ at + (i + 1) = omega arith in
-    let g : Put l (set m (at + i) (get_or bs i 0)) at (at + i + 1) (take i bs ++ (get_or bs i 0 ∷ [])) = put_then l m at (at + i) (get_or bs i 0) (take i bs) f k in
-    let last : take (i + 1) bs ≡ take i bs ++ (get_or bs i 0 ∷ []) = rw (add-one i) (take-suc bs i 0 h) in
-    subst₂ (λ (r : ℕ) (xs : List ℕ). Put l (set m (at + i) (get_or bs i 0)) at r xs) e (sym last) g
-
-pub put_all : (l m : List ℕ) (at i : ℕ) (bs : List ℕ) → length bs ≤ i → Put l m at (at + i) (take i bs) → Put l m at (at + i) bs
-put_all l m at i bs k f = rw (take_all i bs k) at f
+-- ---- a list copied as a whole
+pub put_slice : (l ys bs : List ℕ) (at k : ℕ) → at + length bs ≤ length l → k ≡ length bs → ys ≡ bs → Put l (put_mid at k l ys) at (at + length bs) bs
+put_slice l ys bs at k room long e =
+    let far : length ys ≡ k = ap length e ∙ sym long in
+    let same : length ys ≡ length bs = ap length e in
+    record {
+      next = refl;
+      is = take-put_mid at k l ys (at + length bs) (omega (arith, same)) (omega (arith, room)) ∙ ap (λ (z : List ℕ). take at l ++ z) e;
+      rest = drop-put_mid at k l ys (at + length bs) (omega (arith, long)) (omega (arith, room)) far;
+    }
 
 -- ---- what is put settles every byte, so two outcomes are the same
 put_whole : (l m : List ℕ) (at r : ℕ) (bs : List ℕ) → Put l m at r bs → m ≡ (take at l ++ bs) ++ drop (at + length bs) l
@@ -45,3 +41,10 @@ put_whole l m at r bs f = sym (take-append-drop r m) ∙ (ap₂ (λ (x y : List 
 
 pub put_once : (l m n : List ℕ) (at r q : ℕ) (bs : List ℕ) → Put l m at r bs → Put l n at q bs → (r ≡ q) × (m ≡ n)
 put_once l m n at r q bs f g = (f.next ∙ sym g.next, put_whole l m at r bs f ∙ sym (put_whole l n at q bs g))
+
+-- ---- what a writer puts, piece after piece
+pub puts_none : (w : Writer) → Puts w w []
+puts_none w = record { put = put_none w.out.now w.at w.at refl; long = refl; same = refl }
+
+pub puts_both : {w v u : Writer} {xs ys : List ℕ} → Puts w v xs → Puts v u ys → Puts w u (xs ++ ys)
+puts_both {w} {v} {u} {xs} {ys} f g = record { put = put_both w.out.now v.out.now u.out.now w.at v.at u.at xs ys f.put g.put; long = g.long ∙ f.long; same = g.same ∙ f.same }

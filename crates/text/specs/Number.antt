@@ -1,7 +1,5 @@
 -- A number in a line: decimal digits, at least one, of a value up to 65535. Zeros may stand in front.
-use Rattle.std.specs.Prelude.{ℕ, ◌+◌, ◌-◌, ◌*◌, Bool, true, false, ◌&&◌, List, [], ◌∷◌, leb}
-use Rattle.text.specs.declared.number.Number.{Number}
-use Rattle.text.specs.declared.number.Number.TheVariants.{Is, Not}
+use Rattle.std.specs.Prelude.{ℕ, ◌+◌, ◌-◌, ◌*◌, Bool, true, false, ◌&&◌, List, [], ◌∷◌, leb, Option, Some, None}
 
 -- a byte is one of 0 to 9
 abbrev pub digit : ℕ → Bool
@@ -31,10 +29,10 @@ abbrev pub is_number : List ℕ → Bool
 is_number w = nonempty w && (digits w && leb (value w) 65535)
 
 -- the number n, where a part is one
-abbrev pub pick_number : Bool → ℕ → Number
-pick_number true n = Is n
-pick_number false n = Not
+abbrev pub pick_number : Bool → ℕ → Option ℕ
+pick_number true n = Some n
+pick_number false n = None
 
 -- the number that a part is
-abbrev pub number_of : List ℕ → Number
+abbrev pub number_of : List ℕ → Option ℕ
 number_of w = pick_number (is_number w) (value w)

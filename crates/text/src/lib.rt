@@ -1,8 +1,8 @@
-// Bytes: decimal numbers in and out, fixed words matched and written, the parts of a line, the script reader, the line buffer.
+// Bytes: a decimal number read, bytes and numbers written, the parts of a line, the script reader, the line buffer.
 #![tactic(auto)]
 
 pub mod line;
 pub mod number;
 pub mod part;
 pub mod script;
-pub mod word;
+pub mod writer;

@@ -1,47 +1,60 @@
-// The line buffer: the bytes of a line that is being read, 200 at most, and whether the line has more.
-ghost use Rattle.std.specs.Prelude.{List, [], ◌∷◌, ◌++◌, ℕ};
-ghost use Rattle.text.specs.Line.{Reads, Sound};
+// The line buffer: the bytes of a line that is being read, 200 at most, and none once the line has more. A contract sees a Line as these bytes.
+ghost use Rattle.std.specs.Prelude.{Option, List, [], ◌∷◌, ◌++◌, ◌≡◌, ℕ};
+ghost use Rattle.std.specs.Option.{option_copied};
+ghost use Rattle.text.specs.Line.{Reads};
 
-// The first `count` of `bytes` are the line's, unless it is too long.
-#[derive(Clone, Copy)]
+use std::marker::Model;
+
+#[derive(Drop)]
 pub struct Line {
-    pub bytes: [u8; 200],
-    pub count: usize,
-    pub long: bool,
+    bytes: [u8; 200],
+    count: Option<usize>,
 }
 
-// A line of which nothing has been read.
-pub fn fresh() -> Line
-    ensures { (Sound result) × (Reads result []) }
-{
-    Line {
-        bytes: [0u8; 200],
-        count: 0,
-        long: false,
-    }
+impl Model for Line {
+    ghost use Rattle.std.specs.Prelude.{Option, List, ℕ, ◌≤◌, take, length};
+    ghost use Rattle.std.specs.Option.{option_map, IfSome};
+
+    ghost Value = { Option (List ℕ) };
+
+    ghost view = { λ l. option_map (λ n. take n l.bytes) l.count };
+
+    ghost invariant = { λ l. IfSome l.count (λ n. n ≤ 200) };
 }
 
-// One byte more of the line.
-pub fn push(l: Line, b: u8) -> Line
-    requires { Sound l }
-    ensures { (Sound result) × ((p : List ℕ) → Reads l p → Reads result (p ++ (b ∷ []))) }
-{
-    if l.long {
-        return l;
+impl Line {
+    // A line of which nothing has been read.
+    pub fn fresh() -> Line
+        ensures { Reads result [] }
+    {
+        Line {
+            bytes: [0u8; 200],
+            count: Some(0),
+        }
     }
-    let mut bytes = l.bytes;
-    let count = l.count;
-    if count >= 200 {
-        return Line {
-            bytes,
-            count,
-            long: true,
+
+    // One byte more of the line.
+    pub fn push(&mut self, b: u8)
+        ensures { (p : List ℕ) → Reads self.old p → Reads self.new (p ++ (b ∷ [])) }
+    {
+        let Some(count) = self.count else {
+            return;
         };
+        if count >= 200 {
+            self.count = None;
+            return;
+        }
+        self.bytes[count] = b;
+        self.count = Some(count + 1);
     }
-    bytes[count] = b;
-    Line {
-        bytes,
-        count: count + 1,
-        long: false,
+
+    // The line's bytes; none if it is too long.
+    pub fn text(&self) -> Option<&[u8]>
+        ensures { option_copied result ≡ self.now }
+    {
+        match self.count {
+            Some(count) => Some(&self.bytes[..count]),
+            None => None,
+        }
     }
 }

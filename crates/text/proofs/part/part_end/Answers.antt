@@ -1,15 +1,14 @@
--- `part_end`. The end of the part at i is the end of the one at `at`.
-use mathlib.Core.Path.{ap, ◌∙◌}
-use mathlib.Core.Bool.{not}
+-- `part_end`. The bytes counted are those in front that are no blanks.
+use Rattle.std.proofs.Common.{rules, drop, tests, ap, ◌+◌, ℕ, ◌∙◌}
+use Rattle.std.proofs.lemmas.Iterator.{YieldsList-from_slice}
+use Rattle.std.proofs.lemmas.Iterator.Adapters.{YieldsList-from_skip}
+use Rattle.std.proofs.lemmas.Iterator.Consumers.{count_from_yields_List, YieldsList-at}
+use Rattle.std.proofs.lemmas.Iterator.Search.{YieldsList-from_take_while}
+use Rattle.text.proofs.Parts.{leading_taken}
 use Rattle.text.specs.Part.{unblank}
-use Rattle.text.proofs.Parts.{scan_end, scan_stop, scan_on, blank_is, blank_not}
 use Rattle.text.proofs.part.part_end.Goals as goal
 
-pub returns-then-text-i-eq32 : goal.returns-then-text-i-eq32
-returns-then-text-i-eq32 c = scan_stop unblank _ _ c.loop-i-test.true (ap not (blank_is _ c.if-text-i-eq32.true)) ∙ c.loop-i.invariant
-
-pub loop-i-preserved : goal.loop-i-preserved
-loop-i-preserved c = scan_on unblank _ _ c.loop-i-test.true (ap not (blank_not _ c.if-text-i-eq32.false)) ∙ c.loop-i.invariant
-
 pub returns : goal.returns
-returns c = scan_end unblank _ _ c.loop-i-test.false ∙ c.loop-i.invariant
+returns c =
+    let skipped = YieldsList-from_skip _ (YieldsList-at c.skip.ensures.source (YieldsList-from_slice c.args.text.now cc)) c.skip.ensures.count in
+    ap (λ (n : ℕ). c.args.at + n) (count_from_yields_List _ _ c.count.ensures.ran (YieldsList-from_take_while _ unblank (YieldsList-at c.take_while.ensures.source skipped) c.take_while.ensures.closure c.take_while.ensures.done (λ x b q k. search (rules, tests))) ∙ leading_taken unblank (drop c.args.at c.args.text.now))

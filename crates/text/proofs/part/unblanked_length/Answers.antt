@@ -1,15 +1,14 @@
--- `unblanked_length`. The first e bytes without the blanks at their end are the line without those at its own.
-use mathlib.Core.Path.{sym, ap, ◌∙◌}
-use borrow.Author.Rules.{rules}
-use lib.ListN.{length}
-use Rattle.text.proofs.Parts.{unblanked_on, unblanked_stop, unblanked_none}
+-- `unblanked_length`. The bytes counted are the blanks at the end.
+use Rattle.std.proofs.Common.{rules, tests}
+use Rattle.std.proofs.lemmas.Iterator.Adapters.{YieldsList-from_rev_slice}
+use Rattle.std.proofs.lemmas.Iterator.Consumers.{count_from_yields_List, YieldsList-at}
+use Rattle.std.proofs.lemmas.Iterator.Search.{YieldsList-from_take_while}
+use Rattle.text.proofs.Parts.{unblanked_counted}
+use Rattle.text.specs.Part.{blank}
 use Rattle.text.proofs.part.unblanked_length.Goals as goal
 
-pub returns-then-text-e-ne32 : goal.returns-then-text-e-ne32
-returns-then-text-e-ne32 c = unblanked_stop c.args.text.now c.loop-e.e (search rules) c.loop-e.invariant.0 c.if-text-e-ne32.true ∙ ap length (sym c.loop-e.invariant.1)
-
-pub loop-e-preserved : goal.loop-e-preserved
-loop-e-preserved c = (search rules, c.loop-e.invariant.1 ∙ unblanked_on c.args.text.now c.loop-e.e (search rules) c.loop-e.invariant.0 c.if-text-e-ne32.false)
-
 pub returns : goal.returns
-returns c = unblanked_none c.args.text.now c.loop-e.e (search rules) ∙ ap length (sym c.loop-e.invariant.1)
+returns c =
+    let reversed = YieldsList-from_rev_slice c.args.text.now cc in
+    unblanked_counted c.args.text.now c.count.result
+    (count_from_yields_List _ _ c.count.ensures.ran (YieldsList-from_take_while _ blank (YieldsList-at c.take_while.ensures.source reversed) c.take_while.ensures.closure c.take_while.ensures.done (λ x b q k. search (rules, tests))))
