@@ -13,10 +13,10 @@ use Rattle.rules.specs.declared.rule.Rule.{Rule}
 use Rattle.rules.specs.Some.{some}
 use Rattle.rules.specs.Words.{rule_at}
 use Rattle.rules.proofs.Searches.{same_truth, some_at, some_has}
-use Rattle.edges.specs.declared.edge.Turn.{Turn}
+use Rattle.edges.specs.declared.turn.Turn.{Turn}
 use Rattle.edges.specs.Chains.{cell, cell_at, NextOf, Chained, Linked}
-use Rattle.edges.specs.Edge.{Marked}
-use Rattle.edges.specs.Near.{across, across_all, Forward}
+use Rattle.edges.specs.Edge.{Marked, Steps}
+use Rattle.edges.specs.Near.{across, across_all, Between}
 use Rattle.edges.proofs.Edges.{Faceless, across_none, pair_start, pair_more}
 use Rattle.edges.proofs.Marking.{relabel}
 
@@ -107,10 +107,10 @@ pair_skip ks ws i l t at u none M = relabel M (λ q.
     (λ e. let h = some_has l f e in
     ⊎_elim (λ (v : h.0 < i). some_at i f h.0 v h.2) (λ (v : i ≤ h.0). absurd (true≢false (sym h.2 ∙ none h.0 v h.1 q))) (lt_or_ge h.0 i)))
 
-module _ (ks ws : List ℕ) (n : ℕ) (t : Turn) (at : ℕ) {a b : ℕ} (f : Forward t) (g : 82 ≤ at) (ea : a ≡ get_or ks at 0) (eb : b ≡ get_or ks (at - t.wp) 0) where
+module _ (ks ws : List ℕ) (n : ℕ) (t : Turn) (at : ℕ) {a b : ℕ} (s : Steps t) (g : 82 ≤ at) (k : Between ks t at a b) where
   -- a rule of another cell marks nothing
   not_here : (j : ℕ) → (cell_at ws j ≡ cell a b → ⊥) → (q : ℕ) → across ks t at (rule_at ws j) q ≡ false
-  not_here j o = across_none ks t f at g (rule_at ws j) (rw (ea, eb) at (other_cell a b (rule_at ws j) o))
+  not_here j o = across_none ks t (record { steps = s; back = k.back }) at g (rule_at ws j) (rw (k.here, k.before) at (other_cell a b (rule_at ws j) o))
 
   -- up to the first of the cell
   pub chain_start : {r : ℕ} {m : List ℕ} → NextOf ws n (cell a b) 0 r → Marked (across_all ks ws (min r n) t at) m m
@@ -120,6 +120,6 @@ module _ (ks ws : List ℕ) (n : ℕ) (t : Turn) (at : ℕ) {a b : ℕ} (f : For
   pub chain_more : {i r : ℕ} {m m₁ m₂ : List ℕ} → i < n → cell_at ws i ≡ cell a b → NextOf ws n (cell_at ws i) (i + 1) r
       → Marked (across_all ks ws (min i n) t at) m m₁ → Marked (across ks t at (rule_at ws i)) m₁ m₂ → Marked (across_all ks ws (min r n) t at) m m₂
   chain_more {i} {r} u e N M H =
-      let s : min i n ≡ i = omega arith in
+      let o : min i n ≡ i = omega arith in
       pair_skip ks ws (i + 1) (min r n) t at (omega (arith, N.low)) (λ j v w. not_here j (λ h. N.none j v (omega arith) (omega arith) (h ∙ sym e)))
-      (pair_more ks ws i t at (rw s at M) H)
+      (pair_more ks ws i t at (rw o at M) H)

@@ -7,37 +7,33 @@ use mathlib.Core.Logic.{⊎_elim}
 use native.Mathlib.Omega.{arith}
 use lib.ListN.{get_or}
 use lib.Dec.{eqb, leb, ltb}
-use borrow.Author.Tests.{eq-eqb, eqb-true, not-false, leb-true, ltb-true, le-leb, lt-ltb, le-ltb, lt-leb}
+use borrow.Author.Tests.{eq-eqb, eqb-true, ne_eqb, not-false, leb-true, ltb-true, le-leb, lt-ltb, le-ltb, lt-leb}
 use Rattle.plane.specs.Picture.{area, in_area}
-use Rattle.plane.proofs.Basics.{and_both, and_left, and_right, is_false, is_true}
+use Rattle.plane.proofs.Basics.{lt_or_ge, and_both, and_left, and_right, is_false, is_true}
 use Rattle.rules.specs.declared.rule.Rule.{Rule}
 use Rattle.rules.specs.Words.{rule_at, Apart}
 use Rattle.rules.specs.Forbid.{right, left, up, down}
 use Rattle.rules.proofs.Window.{within}
 use Rattle.rules.proofs.Searches.{some_at, some_has, some_none, or_left, or_right, or_cases, same_truth}
-use Rattle.edges.specs.declared.edge.Turn.{Turn}
+use Rattle.edges.specs.declared.turn.Turn.{Turn}
 use Rattle.edges.specs.Edge.{Marked, Steps, edge_at, hit, goes, goes_hit, turn}
-use Rattle.edges.specs.Near.{Ruled, flip_e, flip_w, hit_from, across, across_all, edges_at, edges_to, edges_over, Forward, Still, hits, swept, sweeps}
+use Rattle.edges.specs.Near.{Ruled, flip_e, flip_w, hit_from, across, across_all, faces, edges_at, edges_to, edges_over, Forward, Between, Still, hits, swept, sweeps}
 use Rattle.edges.proofs.Truths.{four1, four2, four3, four4, split4, split8}
 use Rattle.edges.proofs.Marking.{keep, relabel, and_then, start, more, hit_none}
 
 -- ---- one direction
 module _ (ks : List ℕ) (all : Bool) (t : Turn) (at : ℕ) (r : Rule) where
   -- at the rim, and inside
-  pub from_low : {m : List ℕ} → at - t.wm < 83 → Marked (hit_from ks all t at r) m m
+  pub from_rim : {m : List ℕ} → (83 ≤ at - t.wm → at - t.wm < 6641 → ⊥) → Marked (hit_from ks all t at r) m m
   unfolding hit_from
-  from_low l = keep (λ q. rw (lt-leb 83 (at - t.wm) l))
-
-  pub from_high : {m : List ℕ} → 6641 ≤ at - t.wm → Marked (hit_from ks all t at r) m m
-  unfolding hit_from
-  from_high l = keep (λ q. rw (le-ltb (at - t.wm) 6641 l, and-false (leb 83 (at - t.wm))))
+  from_rim out = keep (λ q. ⊎_elim
+      (λ (l : at - t.wm < 83). rw (lt-leb 83 (at - t.wm) l))
+      (λ (l : 83 ≤ at - t.wm). rw (le-ltb (at - t.wm) 6641 (⊎_elim (λ (h : at - t.wm < 6641). absurd (out l h)) (λ h. h) (lt_or_ge (at - t.wm) 6641)), and-false (leb 83 (at - t.wm))))
+      (lt_or_ge (at - t.wm) 83))
 
   here : 83 ≤ at - t.wm → at - t.wm < 6641 → (q : ℕ) → goes_hit ks all t (at - t.wm) r q ≡ hit_from ks all t at r q
   unfolding hit_from
   here a b q = rw (le-leb 83 (at - t.wm) a, lt-ltb (at - t.wm) 6641 b)
-
-  pub from_here : {m m₁ : List ℕ} → 83 ≤ at - t.wm → at - t.wm < 6641 → Marked (goes_hit ks all t (at - t.wm) r) m m₁ → Marked (hit_from ks all t at r) m m₁
-  from_here a b h = relabel h (here a b)
 
   -- where the rule has no edge, and where it lacks the direction
   from_none : edge_at ks r t (at - t.wm) ≡ false → (q : ℕ) → hit_from ks all t at r q ≡ false
@@ -57,7 +53,22 @@ module _ (ks : List ℕ) (all : Bool) (t : Turn) (at : ℕ) (r : Rule) where
         and_right (leb 83 (at - t.wm) && ltb (at - t.wm) 6641) (goes_hit ks all t (at - t.wm) r q) e,
       )
 
--- ---- a one-way rule
+-- the first direction, inside
+pub from_here : (ks : List ℕ) (t : Turn) (at : ℕ) (r : Rule) {m m₁ : List ℕ} → 83 ≤ at - t.wm → at - t.wm < 6641 → Marked (hit ks r t (at - t.wm)) m m₁ → Marked (hit_from ks true t at r) m m₁
+unfolding goes goes_hit
+from_here ks t at r a b h = relabel h (here ks true t at r a b)
+
+-- ---- a fourway rule, and a one-way rule
+-- a fourway rule has each direction
+each_way : (ks : List ℕ) (t : Turn) (at : ℕ) (r : Rule) {m m₁ : List ℕ} → (r.fourway ≡ 0 → ⊥) → Marked (hit_from ks true t at r) m m₁ → Marked (hit_from ks false t at r) m m₁
+unfolding hit_from goes goes_hit
+each_way ks t at r n a = relabel a (λ q. rw (ne_eqb r.fourway 0 n))
+
+pub four_ways : (ks : List ℕ) (t : Turn) (at : ℕ) (r : Rule) {m m₁ m₂ m₃ m₄ : List ℕ} → (r.fourway ≡ 0 → ⊥)
+    → Marked (hit_from ks true t at r) m m₁ → Marked (hit_from ks true (flip_e t) at r) m₁ m₂ → Marked (hit_from ks true (flip_w t) at r) m₂ m₃ → Marked (hit_from ks true (flip_w (flip_e t)) at r) m₃ m₄ → Marked (across ks t at r) m m₄
+unfolding across
+four_ways ks t at r n a b c d = and_then (and_then (and_then a (each_way ks (flip_e t) at r n b)) (each_way ks (flip_w t) at r n c)) (each_way ks (flip_w (flip_e t)) at r n d)
+
 lacking : (r : Rule) → r.fourway ≡ 0 → goes false r ≡ false
 unfolding goes
 lacking r e = ap not (eq-eqb r.fourway 0 e)
@@ -120,10 +131,6 @@ module _ (ks : List ℕ) (t : Turn) (f : Forward t) (at : ℕ) (g : 82 ≤ at) (
         back_none (flip_w (flip_e t)) refl refl q,
       )
 
--- the code's test of the types
-abbrev faces : ℕ → ℕ → Rule → Bool
-faces a b r = (eqb r.type1 b && eqb r.type2 a) || (eqb r.type1 a && eqb r.type2 b && not (eqb r.fourway 0))
-
 faceless : (a b : ℕ) (r : Rule) → faces a b r ≡ false → Faceless a b r
 faceless a b r e = record {
   ahead = λ p q. true≢false (sym (or_left (eqb r.type1 a && eqb r.type2 b && not (eqb r.fourway 0)) (and_both _ _ (eq-eqb r.type1 b q) (eq-eqb r.type2 a p))) ∙ e);
@@ -135,24 +142,21 @@ same_kind : (a b : ℕ) (r : Rule) → a ≡ b → Apart r → Faceless a b r
 same_kind a b r e n = record { ahead = λ p q. n (q ∙ sym e ∙ sym p); back = λ p q. absurd (n (q ∙ e ∙ sym p)) }
 
 -- a rule without its types there marks nothing
-pub other_pair : (ks : List ℕ) (t : Turn) (at : ℕ) (r : Rule) {a b : ℕ} {m : List ℕ} → Forward t → 82 ≤ at → a ≡ get_or ks at 0 → b ≡ get_or ks (at - t.wp) 0
-    → faces a b r ≡ false → Marked (across ks t at r) m m
-other_pair ks t at r {a} {b} f g ea eb e = keep (across_none ks t f at g r (rw (ea, eb) at (faceless a b r e)))
+pub other_pair : (ks : List ℕ) (t : Turn) (at : ℕ) (r : Rule) {a b : ℕ} {f : Bool} {m : List ℕ} → Steps t → 82 ≤ at → Between ks t at a b → f ≡ faces a b r → f ≡ false → Marked (across ks t at r) m m
+other_pair ks t at r {a} {b} s g k e z = keep (across_none ks t (record { steps = s; back = k.back }) at g r (rw (k.here, k.before) at (faceless a b r (sym e ∙ z))))
 
 -- where the two squares are of one type, no rule marks anything
-pub one_type : (ks ws : List ℕ) (n : ℕ) (t : Turn) (at : ℕ) {a b : ℕ} {m : List ℕ} → Forward t → 82 ≤ at → Ruled ws n → a ≡ get_or ks at 0 → b ≡ get_or ks (at - t.wp) 0 → a ≡ b → Marked (across_all ks ws n t at) m m
+pub one_type : (ks ws : List ℕ) (n : ℕ) (t : Turn) (at : ℕ) {a b : ℕ} {m : List ℕ} → Steps t → 82 ≤ at → Ruled ws n → t.wm ≡ 0 → a ≡ get_or ks at 0 → b ≡ get_or ks (at - t.wp) 0 → a ≡ b → Marked (across_all ks ws n t at) m m
 unfolding across_all
-one_type ks ws n t at f g ok ea eb e =
+one_type ks ws n t at s g ok z ea eb e =
     keep (λ q. some_none n (λ i. across ks t at (rule_at ws i) q)
-    (λ i l. across_none ks t f at g (rule_at ws i) (same_kind (get_or ks at 0) (get_or ks (at - t.wp) 0) (rule_at ws i) (sym ea ∙ e ∙ eb) (ok.apart i l)) q))
+    (λ i l. across_none ks t (record { steps = s; back = z }) at g (rule_at ws i) (same_kind (get_or ks at 0) (get_or ks (at - t.wp) 0) (rule_at ws i) (sym ea ∙ e ∙ eb) (ok.apart i l)) q))
 
 -- so nothing is marked at a square of the type of both neighbours
-pub no_edges : (ks ws : List ℕ) (n at : ℕ) {a b d : ℕ} {m : List ℕ} → 82 ≤ at → Ruled ws n → a ≡ get_or ks at 0 → b ≡ get_or ks (at - 1) 0 → d ≡ get_or ks (at - 82) 0 → (eqb b a && eqb d a) ≡ true → Marked (edges_at ks ws n at) m m
+pub no_edges : (ks ws : List ℕ) (n at : ℕ) {a b d : ℕ} {m : List ℕ} → 82 ≤ at → Ruled ws n → a ≡ get_or ks at 0 → b ≡ get_or ks (at - 1) 0 → d ≡ get_or ks (at - 82) 0 → b ≡ a → d ≡ a → Marked (edges_at ks ws n at) m m
 unfolding edges_at
-no_edges ks ws n at {a} {b} {d} g ok ea eb ed e =
-    and_then
-    (one_type ks ws n (turn right up) at (record { steps = omega arith; back = refl }) g ok ea eb (sym (eqb-true b a (and_left (eqb b a) (eqb d a) e))))
-    (one_type ks ws n (turn up left) at (record { steps = omega arith; back = refl }) g ok ea ed (sym (eqb-true d a (and_right (eqb b a) (eqb d a) e))))
+no_edges ks ws n at {a} {b} {d} g ok ea eb ed e f =
+    and_then (one_type ks ws n (turn right up) at (omega arith) g ok refl ea eb (sym e)) (one_type ks ws n (turn up left) at (omega arith) g ok refl ea ed (sym f))
 
 -- ---- one rule more, one index more, and one row more
 pub pair_start : (ks ws : List ℕ) (t : Turn) (at : ℕ) {m : List ℕ} → Marked (across_all ks ws 0 t at) m m
@@ -339,10 +343,3 @@ module _ (ks ws : List ℕ) (n lo hi y : ℕ) (ok : Ruled ws n) (s : Still ks lo
 -- the marks of all edges are those of the sweeps
 pub swept_all : (ks ws : List ℕ) (n lo hi : ℕ) {y : ℕ} {m m₁ : List ℕ} → Ruled ws n → Still ks lo hi → y ≡ max 1 lo → Marked (edges_over ks ws n (y * 82 + lo) (hi - lo) (hi - y)) m m₁ → Marked (sweeps ks ws n) m m₁
 swept_all ks ws n lo hi {y} ok s first a = relabel a (edges_sweep ks ws n lo hi y ok s first)
-
--- ---- turned steps
-pub turned_along : {t : Turn} → Steps t → Steps (flip_e t)
-turned_along s = record { wp = s.wp; wm = s.wm; ep = s.em; em = s.ep; up = s.up_down; down = s.down_up; down_up = s.down; up_down = s.up }
-
-pub turned_across : {t : Turn} → Steps t → Steps (flip_w t)
-turned_across s = record { wp = s.wm; wm = s.wp; ep = s.ep; em = s.em; up = s.down_up; down = s.up_down; down_up = s.up; up_down = s.down }

@@ -5,7 +5,6 @@ use mathlib.Core.List.{List}
 use mathlib.Core.Path.{◌≡◌, refl, sym, ◌∙◌, ap}
 use native.Mathlib.Omega.{arith}
 use native.Mathlib.Numerals.{add-one}
-use native.Mathlib.Nat.{mul-le-mul}
 use native.Mathlib.Decide.{ℕ_discrete}
 use lib.ListN.{length, get_or, set, length-set}
 use lib.Seq.{get_or-set_same, get_or-set_other}
@@ -15,8 +14,8 @@ use Rattle.rules.specs.declared.rule.Rule.{Rule}
 use Rattle.rules.specs.Some.{some}
 use Rattle.rules.specs.Sets.{member}
 use Rattle.rules.proofs.Searches.{some_suc}
-use Rattle.edges.specs.declared.edge.Turn.{Turn}
-use Rattle.edges.specs.Edge.{Marked, Local, one, barred, deep, past, edge_at, turns_at, hit, goes, goes_hit}
+use Rattle.edges.specs.declared.turn.Turn.{Turn}
+use Rattle.edges.specs.Edge.{Marked, one, barred, deep, past, edge_at, turns_at, hit}
 
 -- ---- markings
 -- nothing is marked
@@ -52,38 +51,24 @@ start P = keep (λ q. refl)
 pub more : (P : ℕ → ℕ → Bool) (i : ℕ) {m m₁ m₂ : List ℕ} → Marked (λ q. some i (λ k. P k q)) m m₁ → Marked (P i) m₁ m₂ → Marked (λ q. some (i + 1) (λ k. P k q)) m m₂
 more P i a b = rw (add-one i) (then a b (λ q. sym (some_suc i (λ k. P k q))))
 
--- the marks are as long as before
-pub local_on : {ks m m₁ : List ℕ} → Local ks m → length m₁ ≡ length m → Local ks m₁
-local_on l e = record { small = l.small; sized = e ∙ l.sized }
-
 -- ---- one square
 module _ (ks : List ℕ) (allowed x y : ℕ) where
   one_far : (q : ℕ) → (q + y ≡ x → ⊥) → one ks allowed x y q ≡ false
   unfolding one
   one_far q ne = ap (λ b. b && barred ks allowed q) (ne_eqb (q + y) x ne)
 
-  -- off the picture
-  pub one_low : {m : List ℕ} → x < y → Marked (one ks allowed x y) m m
-  one_low l = keep (λ q. one_far q (λ z. omega arith))
-
-  pub one_high : {m : List ℕ} → Local ks m → 6724 ≤ x - y → Marked (one ks allowed x y) m m
-  one_high L l = keep_in (λ q h. one_far q (λ z. omega (arith, L.sized)))
-
-  -- of an allowed type, and of another
-  pub one_free : {b : Bool} {m : List ℕ} → y ≤ x → b ≡ member allowed (get_or ks (x - y) 0) → b ≡ true → Marked (one ks allowed x y) m m
+  -- off the picture, or of an allowed type; and of another
+  pub one_none : {m : List ℕ} → length m ≡ 6724 → (y ≤ x → x - y < 6724 → member allowed (get_or ks (x - y) 0) ≡ true) → Marked (one ks allowed x y) m m
   unfolding one barred
-  one_free {b} l e f = keep (λ q. at q (ℕ_discrete (q + y) x))
+  one_none {m} sized free = keep_in (λ q h. at q h (ℕ_discrete (q + y) x))
     where
-      free : barred ks allowed (x - y) ≡ false
-      free = ap not (sym e ∙ f)
+      at : (q : ℕ) → q < length m → Dec (q + y ≡ x) → one ks allowed x y q ≡ false
+      at q h (yes e) = let p : q ≡ x - y = omega arith in ap (λ z. eqb (q + y) x && barred ks allowed z) p ∙ ap (λ b. eqb (q + y) x && not b) (free (omega arith) (omega (arith, sized))) ∙ and-false (eqb (q + y) x)
+      at q h (no ne) = one_far q ne
 
-      at : (q : ℕ) → Dec (q + y ≡ x) → one ks allowed x y q ≡ false
-      at q (yes e) = let p : q ≡ x - y = omega arith in ap (λ z. eqb (q + y) x && barred ks allowed z) p ∙ ap (λ b. eqb (q + y) x && b) free ∙ and-false (eqb (q + y) x)
-      at q (no ne) = one_far q ne
-
-  pub one_set : {b : Bool} {m : List ℕ} → Local ks m → y ≤ x → x - y < 6724 → b ≡ member allowed (get_or ks (x - y) 0) → b ≡ false → Marked (one ks allowed x y) m (set m (x - y) 1)
+  pub one_set : {b : Bool} {m : List ℕ} → length m ≡ 6724 → y ≤ x → x - y < 6724 → b ≡ member allowed (get_or ks (x - y) 0) → b ≡ false → Marked (one ks allowed x y) m (set m (x - y) 1)
   unfolding one barred
-  one_set {b} {m} L l h e f = record { long = length-set m (x - y) 1; mark = λ q g. at q (ℕ_discrete (q + y) x) }
+  one_set {b} {m} sized l h e f = record { long = length-set m (x - y) 1; mark = λ q g. at q (ℕ_discrete (q + y) x) }
     where
       bars : barred ks allowed (x - y) ≡ true
       bars = ap not (sym e ∙ f)
@@ -91,14 +76,10 @@ module _ (ks : List ℕ) (allowed x y : ℕ) where
       at : (q : ℕ) → Dec (q + y ≡ x) → get_or (set m (x - y) 1) q 0 ≡ cond (one ks allowed x y q) 1 (get_or m q 0)
       at q (yes e) =
           let p : q ≡ x - y = omega arith in
-          rw (eq-eqb (q + y) x e, p, bars) (get_or-set_same m (x - y) 1 0 (omega (arith, L.sized)))
+          rw (eq-eqb (q + y) x e, p, bars) (get_or-set_same m (x - y) 1 0 (omega (arith, sized)))
       at q (no ne) = rw (one_far q ne) (get_or-set_other m (x - y) q 1 0 (λ e. ne (omega arith)))
 
 -- ---- squares behind an edge, and past its end
--- a step's multiple is small
-pub product_small : (i p : ℕ) → i < 65536 → p ≤ 82 → i * p ≤ 5373952
-product_small i p a b = let h : i ≤ 65536 = omega arith in mul-le-mul h b
-
 pub deep_start : (ks : List ℕ) (allowed plus minus x y : ℕ) {m : List ℕ} → Marked (deep ks allowed 0 plus minus x y) m m
 unfolding deep
 deep_start ks allowed plus minus x y = start (λ k q. one ks allowed (x + k * plus) (y + k * minus) q)
@@ -106,6 +87,10 @@ deep_start ks allowed plus minus x y = start (λ k q. one ks allowed (x + k * pl
 pub deep_more : (ks : List ℕ) (allowed i plus minus x y : ℕ) {m m₁ m₂ : List ℕ} → Marked (deep ks allowed i plus minus x y) m m₁ → Marked (one ks allowed (x + i * plus) (y + i * minus)) m₁ m₂ → Marked (deep ks allowed (i + 1) plus minus x y) m m₂
 unfolding deep
 deep_more ks allowed i plus minus x y a b = more (λ k q. one ks allowed (x + k * plus) (y + k * minus) q) i a b
+
+-- 0 steps to the side
+pub deep_here : (ks : List ℕ) (allowed d p n at ep em : ℕ) {m m₁ : List ℕ} → Marked (deep ks allowed d p n (at + 0 * ep) (0 * em)) m m₁ → Marked (deep ks allowed d p n at 0) m m₁
+deep_here ks allowed d p n at ep em a = let e : at + 0 * ep ≡ at = omega arith in let f : 0 * em ≡ 0 = omega arith in rw (e, f) at a
 
 module _ (ks : List ℕ) (r : Rule) (t : Turn) (at : ℕ) where
   pub past_start : {m : List ℕ} → Marked (past ks r t at 0) m m
@@ -133,12 +118,3 @@ module _ (ks : List ℕ) (r : Rule) (t : Turn) (at : ℕ) where
       → Marked (deep ks r.allowed r.d t.wp t.wm at 0) m m₁ → Marked (past ks r t at r.ce) m₁ m₂ → Marked (hit ks r t at) m m₂
   unfolding hit
   turned {b} {c} e f g h a p = relabel (and_then a p) (λ q. rw (sym e ∙ f, sym g ∙ h))
-
-  -- ---- for a rule that has the direction, and one that has not
-  pub goes_not : (all : Bool) {m : List ℕ} → goes all r ≡ false → Marked (goes_hit ks all t at r) m m
-  unfolding goes_hit
-  goes_not all e = keep (λ q. rw e)
-
-  pub goes_on : (all : Bool) {m m₁ : List ℕ} → goes all r ≡ true → Marked (hit ks r t at) m m₁ → Marked (goes_hit ks all t at r) m m₁
-  unfolding goes_hit
-  goes_on all e a = relabel a (λ q. rw e)

@@ -4,7 +4,7 @@ use Rattle.rules.specs.declared.rule.Rule.{Rule}
 use Rattle.rules.specs.Some.{some}
 use Rattle.rules.specs.Sets.{member}
 use Rattle.rules.specs.Forbid.{Way, right, left, up, down, View}
-use Rattle.edges.specs.declared.edge.Turn.{Turn}
+use Rattle.edges.specs.declared.turn.Turn.{Turn}
 
 -- what a step adds to an index, and what it takes from it
 abbrev pub plus : Way → ℕ

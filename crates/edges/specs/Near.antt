@@ -1,11 +1,11 @@
 -- Marks from the edges of a local picture, each found once; and the same in eight sweeps, one for each direction, which are closer to what the rules forbid.
-use Rattle.std.specs.Prelude.{ℕ, ◌+◌, ◌-◌, ◌*◌, ◌/◌, ◌%◌, ◌<◌, ◌≤◌, Bool, true, false, ◌&&◌, ◌||◌, List, ◌≡◌, length, get_or, leb, ltb}
+use Rattle.std.specs.Prelude.{ℕ, ◌+◌, ◌-◌, ◌*◌, ◌/◌, ◌%◌, ◌<◌, ◌≤◌, Bool, true, false, not, ◌&&◌, ◌||◌, List, ◌≡◌, length, get_or, eqb, leb, ltb}
 use Rattle.plane.specs.Picture.{area, in_area}
 use Rattle.rules.specs.declared.rule.Rule.{Rule}
 use Rattle.rules.specs.Some.{some}
 use Rattle.rules.specs.Words.{rule_at, Apart}
 use Rattle.rules.specs.Forbid.{right, left, up, down}
-use Rattle.edges.specs.declared.edge.Turn.{Turn}
+use Rattle.edges.specs.declared.turn.Turn.{Turn}
 use Rattle.edges.specs.Edge.{Steps, goes_hit, turn}
 
 -- n rules of a list, each with two types, and d and ce at most 16
@@ -15,6 +15,12 @@ pub record Ruled (ws : List ℕ) (n : ℕ) : Type 0 where
   pub deep : (i : ℕ) → i < n → (rule_at ws i).d ≤ 16
   pub side : (i : ℕ) → i < n → (rule_at ws i).ce ≤ 16
   pub apart : (i : ℕ) → i < n → Apart (rule_at ws i)
+
+-- what a picture is looked at by: its types, the words of a list of rules, and how many of them are used
+pub record Looked : Type 0 where
+  pub kinds : List ℕ
+  pub words : List ℕ
+  pub used : ℕ
 
 -- ---- from each edge once
 -- the other way along the edge, and the other way across it
@@ -31,6 +37,10 @@ hit_from ks all t at r q = (leb 83 (at - t.wm) && ltb (at - t.wm) 6641) && goes_
 -- crossed both ways, and along both ways
 unfoldable pub across : List ℕ → Turn → ℕ → Rule → ℕ → Bool
 across ks t at r q = hit_from ks true t at r q || hit_from ks false (flip_e t) at r q || hit_from ks false (flip_w t) at r q || hit_from ks false (flip_w (flip_e t)) at r q
+
+-- does the rule go between types a and b: from b to a, or back if it is fourway
+abbrev pub faces : ℕ → ℕ → Rule → Bool
+faces a b r = (eqb r.type1 b && eqb r.type2 a) || (eqb r.type1 a && eqb r.type2 b && not (eqb r.fourway 0))
 
 -- for the first n rules
 unfoldable pub across_all : List ℕ → List ℕ → ℕ → Turn → ℕ → ℕ → Bool
@@ -52,6 +62,12 @@ edges_over ks ws n from m rows q = some rows λ j. edges_to ks ws n (from + 82 *
 pub record Forward (t : Turn) : Type 0 where
   pub steps : Steps t
   pub back : t.wm ≡ 0
+
+-- a and b are the types of the square `at` and of the one before it, in a direction to the right or upward
+pub record Between (ks : List ℕ) (t : Turn) (at a b : ℕ) : Type 0 where
+  pub back : t.wm ≡ 0
+  pub here : a ≡ get_or ks at 0
+  pub before : b ≡ get_or ks (at - t.wp) 0
 
 -- outside columns and rows lo up to hi no square differs from the one left of it or below it
 pub record Still (ks : List ℕ) (lo hi : ℕ) : Type 0 where

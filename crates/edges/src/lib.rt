@@ -1,5 +1,6 @@
 // The edges of a local picture, and what the rules forbid from each.
 #![tactic(auto)]
 
-pub mod edge;
+mod edge;
 pub mod near;
+mod turn;

@@ -1,277 +1,198 @@
 // Marks from the edges of a local picture, each found once: the rules of its pair of types, in the directions that they have.
-ghost use Rattle.std.specs.Prelude.{◌≡◌, ◌+◌, ◌-◌, ◌*◌, ◌≤◌, ◌<◌, max, length, get_or};
+ghost use Rattle.std.specs.Prelude.{true, ◌≡◌, ◌+◌, ◌-◌, ◌*◌, ◌≤◌, ◌<◌, length};
 ghost use Rattle.rules.specs.Words.{rule_at};
 ghost use Rattle.edges.specs.Chains.{cell, Linked, Chained};
-ghost use Rattle.edges.specs.Edge.{Marked, Local, Steps};
-ghost use Rattle.edges.specs.Near.{Ruled, hit_from, across, across_all, edges_at, edges_to, edges_over, Forward, Still, sweeps};
+ghost use Rattle.edges.specs.Edge.{Marked, Local};
+ghost use Rattle.edges.specs.Near.{Ruled, Between, faces, hit_from, across, across_all, edges_at, edges_to, edges_over, Still, sweeps};
 
-use crate::edge::{Turn, kind_at, mark_rule};
-use plane::words::{least, most, wide};
-use rules::rule::{Rule, rule_at};
-
-// Crossed to the right, towards the upper end.
-const RIGHT_UP: Turn = Turn {
-    wp: 1,
-    wm: 0,
-    ep: 82,
-    em: 0,
-};
-
-// Crossed upward, towards the left end.
-const UP_LEFT: Turn = Turn {
-    wp: 82,
-    wm: 0,
-    ep: 0,
-    em: 1,
-};
-
-// Marks what the rule forbids from the edge between `at` and the square before it, crossed in one direction.
-fn mark_from(kinds: &[u8; 6724], marks: &mut [u8; 6724], r: Rule, all: bool, t: Turn, at: usize)
-    requires { Local kinds.now marks.old × Steps t × (82 ≤ at) × (at < 6724) × (r.ce ≤ 16) }
-    ensures { Marked (hit_from kinds.now all t at r) marks.old marks.new }
-{
-    let i = at - t.wm;
-    if i < 83 {
-        return;
-    }
-    if 6641 <= i {
-        return;
-    }
-    mark_rule(kinds, marks, all, t, i, r);
-}
-
-// The same, crossed both ways, and along both ways; a rule that is not fourway has the one direction only.
-fn mark_across(kinds: &[u8; 6724], marks: &mut [u8; 6724], r: Rule, t: Turn, at: usize)
-    requires { Local kinds.now marks.old × Steps t × (82 ≤ at) × (at < 6724) × (r.ce ≤ 16) }
-    ensures { Marked (across kinds.now t at r) marks.old marks.new }
-{
-    mark_from(kinds, marks, r, true, t, at);
-    if r.fourway == 0 {
-        return;
-    }
-    let e = Turn {
-        wp: t.wp,
-        wm: t.wm,
-        ep: t.em,
-        em: t.ep,
-    };
-    let w = Turn {
-        wp: t.wm,
-        wm: t.wp,
-        ep: t.ep,
-        em: t.em,
-    };
-    let b = Turn {
-        wp: t.wm,
-        wm: t.wp,
-        ep: t.em,
-        em: t.ep,
-    };
-    mark_from(kinds, marks, r, false, e, at);
-    mark_from(kinds, marks, r, false, w, at);
-    mark_from(kinds, marks, r, false, b, at);
-}
+use crate::edge::Picture;
+use crate::turn::{Crossing, Side, Turn};
+use rules::list::RuleList;
+use rules::rule::Rule;
+use std::marker::Model;
 
 // The cell of a pair of types, whichever of them comes first. Two pairs may share one: that costs time only.
+#[tactic(auto, unfolding(crate::specs::Chains::cell))]
 fn cell_of(a: u16, b: u16) -> usize
     ensures { (result ≡ cell a b) × (result < 256) }
 {
-    (16 * wide(least(a, b)) + wide(most(a, b))) % 256
+    (16 * usize::from(a.min(b)) + usize::from(a.max(b))) % 256
 }
 
 // Puts rule i before the others of its cell.
-fn chain_rule(rules: &[u16], chains: &mut [u16; 768], i: usize)
-    requires { (8 * i + 8 ≤ length rules.now) × (i < 512) × (length chains.old ≡ 768) }
-    ensures { Linked rules.now i chains.old chains.new }
+#[tactic(auto, unfolding(rules::specs::Words::rule_at))]
+fn chain_rule(rules: RuleList<'_>, chains: &mut [u16; 768], i: usize)
+    requires { (8 * i + 8 ≤ length rules.words.now) × (i < 512) }
+    ensures { Linked rules.entry.words.now i chains.old chains.new }
 {
-    let k = cell_of(rules[8 * i], rules[8 * i + 1]);
+    let k = cell_of(rules.words[8 * i], rules.words[8 * i + 1]);
     chains[256 + i] = chains[k];
     chains[k] = i as u16;
 }
 
 // The rules by cells: place k has the first rule of cell k, and place 256 + i the next of rule i's cell; 65535 where there is none.
-fn chain_rules(rules: &[u16], used: usize) -> [u16; 768]
-    requires { (8 * used ≤ length rules.now) × (used ≤ 512) }
-    ensures { Chained rules.now used 0 result }
+fn chain_rules(rules: RuleList<'_>) -> [u16; 768]
+    requires { (8 * rules.used ≤ length rules.words.now) × (rules.used ≤ 512) }
+    ensures { Chained rules.entry.words.now rules.entry.used 0 result }
 {
     let mut chains = [65535u16; 768];
-    let mut i = used;
-    while 0 < i {
-        i -= 1;
+    for i in (0..rules.used).rev() {
         chain_rule(rules, &mut chains, i);
     }
     chains
 }
 
-// The same for rule i, past a rule that does not go between the types at the edge: from b to a, or back if it is fourway.
-fn mark_nth(
-    kinds: &[u8; 6724],
-    marks: &mut [u8; 6724],
-    rules: &[u16],
-    i: usize,
-    t: Turn,
-    at: usize,
-    a: u16,
-    b: u16,
-)
-    requires local { Local kinds.now marks.old × Forward t × (82 ≤ at) × (at < 6724) }
-    requires i_in_bounds { (8 * i + 8 ≤ length rules.now) × ((rule_at rules.now i).ce ≤ 16) }
-    requires a_value { (a ≡ get_or kinds.now at 0) × (b ≡ get_or kinds.now (at - t.wp) 0) }
-    ensures { Marked (across kinds.now t at (rule_at rules.now i)) marks.old marks.new }
+// Does the rule go between types a and b: from b to a, or back if it is fourway?
+fn faces(r: Rule, a: u16, b: u16) -> bool
+    ensures { result ≡ faces a b r }
 {
-    let first = rules[8 * i];
-    let second = rules[8 * i + 1];
-    let fourway = rules[8 * i + 6] != 0;
-    let faces = ((first == b) & (second == a)) | ((first == a) & (second == b) & fourway);
-    if faces {
-        let r = rule_at(rules, i);
-        mark_across(kinds, marks, r, t, at);
-    }
+    r.type1 == b && r.type2 == a || r.type1 == a && r.type2 == b && r.fourway != 0
 }
 
-// The same for the used rules: those of the pair's cell, one after the other.
-fn mark_pair(
-    kinds: &[u8; 6724],
-    marks: &mut [u8; 6724],
-    rules: &[u16],
-    used: usize,
-    chains: &[u16; 768],
-    t: Turn,
-    at: usize,
-    a: u16,
-    b: u16,
-)
-    requires chained { Chained rules.now used 0 chains.now }
-    requires local { Local kinds.now marks.old × Ruled rules.now used × Forward t × (82 ≤ at) × (at < 6724) }
-    requires a_value { (a ≡ get_or kinds.now at 0) × (b ≡ get_or kinds.now (at - t.wp) 0) }
-    ensures { Marked (across_all kinds.now rules.now used t at) marks.old marks.new }
-{
-    let k = cell_of(a, b);
-    let mut i = wide(chains[k]);
-    while i < used {
-        mark_nth(kinds, marks, rules, i, t, at, a, b);
-        i = wide(chains[256 + i]);
-    }
+// A local picture and the rules that are looked for in it, chained by cells. A contract sees a Marker as the picture's types and the list.
+#[derive(Drop)]
+struct Marker<'a> {
+    picture: Picture<'a>,
+    rules: RuleList<'a>,
+    chains: &'a [u16; 768],
 }
 
-// The same, past a square whose neighbour has its type.
-fn mark_side(
-    kinds: &[u8; 6724],
-    marks: &mut [u8; 6724],
-    rules: &[u16],
-    used: usize,
-    chains: &[u16; 768],
-    t: Turn,
-    at: usize,
-)
-    requires chained { Chained rules.now used 0 chains.now }
-    requires local { Local kinds.now marks.old × Ruled rules.now used × Forward t × (82 ≤ at) × (at < 6724) }
-    ensures { Marked (across_all kinds.now rules.now used t at) marks.old marks.new }
-{
-    let a = kind_at(kinds, at);
-    let b = kind_at(kinds, at - t.wp);
-    if a == b {
-        return;
-    }
-    mark_pair(kinds, marks, rules, used, chains, t, at, a, b);
+impl<'a> Model for Marker<'a> {
+    ghost use Rattle.edges.specs.Chains.{Chained};
+    ghost use Rattle.edges.specs.Near.{Ruled, Looked};
+
+    ghost Value = { Looked };
+
+    ghost view = { λ m. record { kinds = m.picture; words = m.rules.words.now; used = m.rules.used } };
+
+    ghost invariant = { λ m. Ruled m.rules.words.now m.rules.used × Chained m.rules.words.now m.rules.used 0 m.chains.now };
 }
 
-// From the edges left of `at` and below it, past a square of the type of both neighbours.
-fn mark_at(
-    kinds: &[u8; 6724],
-    marks: &mut [u8; 6724],
-    rules: &[u16],
-    used: usize,
-    chains: &[u16; 768],
-    at: usize,
-)
-    requires chained { Chained rules.now used 0 chains.now }
-    requires local { Local kinds.now marks.old × Ruled rules.now used × (82 ≤ at) × (at < 6724) }
-    ensures { Marked (edges_at kinds.now rules.now used at) marks.old marks.new }
-{
-    let kind = kind_at(kinds, at);
-    let left = kind_at(kinds, at - 1);
-    let below = kind_at(kinds, at - 82);
-    let alike = (left == kind) & (below == kind);
-    if alike {
-        return;
+impl<'a> Marker<'a> {
+    // Marks what the rule forbids from the edge between a square and the one before it, crossed in one direction.
+    fn mark_from(&self, marks: &mut [u8; 6724], r: Rule, s: Side)
+        requires { r.ce ≤ 16 }
+        ensures { Marked (hit_from self.now.kinds true s.turn s.at r) marks.old marks.new }
+    {
+        let at = s.at - s.turn.wm;
+        if 83 <= at && at < 6641 {
+            self.picture
+                .mark_edge(marks, r, Crossing { turn: s.turn, at });
+        }
     }
-    mark_side(kinds, marks, rules, used, chains, RIGHT_UP, at);
-    mark_side(kinds, marks, rules, used, chains, UP_LEFT, at);
-}
 
-// From all edges at the n indexes from `from` on.
-fn mark_range(
-    kinds: &[u8; 6724],
-    marks: &mut [u8; 6724],
-    rules: &[u16],
-    used: usize,
-    chains: &[u16; 768],
-    from: usize,
-    n: usize,
-)
-    requires chained { Chained rules.now used 0 chains.now }
-    requires local { Local kinds.now marks.old × Ruled rules.now used × (82 ≤ from) × (from + n ≤ 6724) }
-    ensures { Marked (edges_to kinds.now rules.now used from n) marks.old marks.new }
-{
-    let mut k: usize = 0;
-    while k < n {
-        mark_at(kinds, marks, rules, used, chains, from + k);
-        k += 1;
+    // The same, crossed both ways, and along both ways; a rule that is not fourway has the one direction only.
+    fn mark_across(&self, marks: &mut [u8; 6724], r: Rule, s: Side)
+        requires { r.ce ≤ 16 }
+        ensures { Marked (across self.now.kinds s.turn s.at r) marks.old marks.new }
+    {
+        self.mark_from(marks, r, s);
+        if r.fourway != 0 {
+            self.mark_from(marks, r, s.mirrored());
+            self.mark_from(marks, r, s.reversed());
+            self.mark_from(marks, r, s.mirrored().reversed());
+        }
     }
-}
 
-// The same in `rows` rows, each 82 indexes after the one before.
-fn mark_rows(
-    kinds: &[u8; 6724],
-    marks: &mut [u8; 6724],
-    rules: &[u16],
-    used: usize,
-    chains: &[u16; 768],
-    from: usize,
-    n: usize,
-    rows: usize,
-)
-    requires chained { Chained rules.now used 0 chains.now }
-    requires local { Local kinds.now marks.old × Ruled rules.now used × (82 ≤ from) × (from + 82 * rows + n ≤ 6806) }
-    ensures { Marked (edges_over kinds.now rules.now used from n rows) marks.old marks.new }
-{
-    let mut j: usize = 0;
-    while j < rows {
-        mark_range(kinds, marks, rules, used, chains, from + 82 * j, n);
-        j += 1;
+    // The same for rule i, past a rule that does not go between the types at the edge.
+    fn mark_nth(&self, marks: &mut [u8; 6724], i: usize, s: Side, a: u16, b: u16)
+        requires between { Between self.now.kinds s.turn s.at a b }
+        requires i_in_bounds { i < self.now.used }
+        ensures { Marked (across self.now.kinds s.turn s.at (rule_at self.now.words i)) marks.old marks.new }
+    {
+        let r = self.rules.rule(i);
+        if faces(r, a, b) {
+            self.mark_across(marks, r, s);
+        }
     }
-}
 
-// The first row from lo on that has one below it.
-fn first_row(lo: usize) -> usize
-    ensures { result ≡ max 1 lo }
-{
-    if lo < 1 { 1 } else { lo }
+    // The same for the used rules: those of the pair's cell, one after the other.
+    fn mark_pair(&self, marks: &mut [u8; 6724], s: Side, a: u16, b: u16)
+        requires { Between self.now.kinds s.turn s.at a b }
+        ensures { Marked (across_all self.now.kinds self.now.words self.now.used s.turn s.at) marks.old marks.new }
+    {
+        let mut i = usize::from(self.chains[cell_of(a, b)]);
+        // A while loop: the step is to the next rule of the cell.
+        while i < self.rules.used {
+            self.mark_nth(marks, i, s, a, b);
+            i = usize::from(self.chains[256 + i]);
+        }
+    }
+
+    // The same, past a square whose neighbour has its type.
+    fn mark_side(&self, marks: &mut [u8; 6724], s: Side)
+        requires { s.turn.wm ≡ 0 }
+        ensures { Marked (across_all self.now.kinds self.now.words self.now.used s.turn s.at) marks.old marks.new }
+    {
+        let a = self.picture.kind(s.at);
+        let b = self.picture.kind(s.at - s.turn.wp);
+        if a != b {
+            self.mark_pair(marks, s, a, b);
+        }
+    }
+
+    // From the edges left of `at` and below it, past a square of the type of both neighbours.
+    fn mark_at(&self, marks: &mut [u8; 6724], at: usize)
+        requires { (82 ≤ at) × (at < 6724) }
+        ensures { Marked (edges_at self.now.kinds self.now.words self.now.used at) marks.old marks.new }
+    {
+        let kind = self.picture.kind(at);
+        if self.picture.kind(at - 1) != kind || self.picture.kind(at - 82) != kind {
+            self.mark_side(
+                marks,
+                Side {
+                    turn: Turn::RIGHT_UP,
+                    at,
+                },
+            );
+            self.mark_side(
+                marks,
+                Side {
+                    turn: Turn::UP_LEFT,
+                    at,
+                },
+            );
+        }
+    }
+
+    // From all edges at the n indexes from `from` on.
+    fn mark_range(&self, marks: &mut [u8; 6724], from: usize, n: usize)
+        requires { (82 ≤ from) × (from + n ≤ 6724) }
+        ensures { Marked (edges_to self.now.kinds self.now.words self.now.used from n) marks.old marks.new }
+    {
+        for k in 0..n {
+            self.mark_at(marks, from + k);
+        }
+    }
+
+    // The same in `rows` rows, each 82 indexes after the one before.
+    fn mark_rows(&self, marks: &mut [u8; 6724], from: usize, n: usize, rows: usize)
+        requires { (82 ≤ from) × (from + 82 * rows + n ≤ 6806) }
+        ensures { Marked (edges_over self.now.kinds self.now.words self.now.used from n rows) marks.old marks.new }
+    {
+        for j in 0..rows {
+            self.mark_range(marks, from + 82 * j, n);
+        }
+    }
 }
 
 // Marks what the used rules forbid, all ways, on a picture with no edge outside columns and rows lo up to hi.
 pub fn mark_near(
     kinds: &[u8; 6724],
     marks: &mut [u8; 6724],
-    rules: &[u16],
-    used: usize,
+    rules: RuleList<'_>,
     lo: usize,
     hi: usize,
 )
-    requires { Local kinds.now marks.old × Ruled rules.now used × Still kinds.now lo hi }
-    ensures { Marked (sweeps kinds.now rules.now used) marks.old marks.new }
+    requires { Local kinds.now marks.old × Ruled rules.words.now rules.used × Still kinds.now lo hi }
+    ensures { Marked (sweeps kinds.now rules.entry.words.now rules.entry.used) marks.old marks.new }
 {
-    let chains = chain_rules(rules, used);
-    let y = first_row(lo);
-    mark_rows(
-        kinds,
-        marks,
+    let chains = chain_rules(rules);
+    let marker = Marker {
+        picture: Picture::of(kinds),
         rules,
-        used,
-        &chains,
-        y * 82 + lo,
-        hi - lo,
-        hi - y,
-    );
+        chains: &chains,
+    };
+    let y = lo.max(1);
+    marker.mark_rows(marks, y * 82 + lo, hi - lo, hi - y);
 }

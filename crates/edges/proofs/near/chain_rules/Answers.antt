@@ -4,7 +4,7 @@ use native.Mathlib.Omega.{arith}
 use Rattle.edges.proofs.near.chain_rules.Goals as goal
 
 pub loop-i-init : goal.loop-i-init
-loop-i-init c = (omega arith, chains_none _ _ c.requires.1)
+loop-i-init c = chains_none _ _ c.requires.1
 
 pub loop-i-preserved : goal.loop-i-preserved
-loop-i-preserved c = (omega arith, chains_down (omega arith) c.loop-i.invariant.0 c.requires.1 c.loop-i.invariant.1 c.chain_rule.ensures)
+loop-i-preserved c = chains_down (omega arith) (omega arith) c.requires.1 c.loop-i.invariant c.chain_rule.ensures

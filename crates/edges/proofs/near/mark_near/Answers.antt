@@ -1,8 +1,7 @@
 -- `mark_near`. Outside the columns and rows there is no edge, so theirs are all of the sweeps.
+use native.Mathlib.Omega.{arith}
 use Rattle.edges.proofs.Edges.{swept_all}
 use Rattle.edges.proofs.near.mark_near.Goals as goal
 
 pub returns : goal.returns
-returns c =
-    let p = c.requires in
-    swept_all _ _ _ _ _ p.1 p.2 c.first_row-y.ensures c.mark_rows.ensures
+returns c = swept_all _ _ _ _ _ c.requires.1 c.requires.2 (omega arith) (rw c.of.ensures at c.mark_rows.ensures)
