@@ -1,11 +1,14 @@
 -- The checks of a table's words and a plane: they make one, and a plane passes them.
 use Prim.Native.Nat.{ℕ, zero, suc, ◌+◌, ◌-◌, ◌*◌, ◌≤◌, ◌<◌}
 use native.Mathlib.Omega.{arith}
-use mathlib.Core.Path.{◌≡◌, sym, ◌∙◌, ap, subst}
+use mathlib.Core.Bool.{Bool, true, false}
+use mathlib.Core.Path.{◌≡◌, refl, sym, ◌∙◌, ap, subst}
 use mathlib.Core.Logic.{⊎_elim}
 use mathlib.Core.List.{List}
+use lib.Dec.{eqb}
+use borrow.Author.Tests.{eqb-true, eqb-false}
 use Rattle.plane.specs.Strips.{Box, Holds}
-use Rattle.plane.specs.Words.{count, width, height, word, tile_of, Header}
+use Rattle.plane.specs.Words.{count, width, height, word, tile_of, Header, Tells}
 use Rattle.plane.specs.Plane.{Names, Sized, Stitches, Boxes, Sides, Apart, Covered, Disjoint, ZeroAfter, InOrder, Plane}
 use Rattle.vet.specs.Checks.{Starts, Column, Upper, Frames, areas}
 use Rattle.plane.proofs.Basics.{lt_or_ge}
@@ -138,6 +141,14 @@ border_end ws edge i P u b =
     absurd (omega (arith, b.tops m.0 (omega (arith, m.1)) (omega (arith, m.2.from_left)), m.2.to_top)))
     (λ s. omega (arith, b.under))
     (lt_or_ge edge (height ws))
+
+-- so past the last tile the border is covered exactly if `edge` is the top
+pub border_tells : (ws : List ℕ) (edge i h : ℕ) → count ws ≤ i → Border ws edge i → h ≡ height ws → Tells (eqb edge h) (Column ws) (Plane ws)
+border_tells ws edge i h u b e = go (eqb edge h) refl
+  where
+    go : (t : Bool) → eqb edge h ≡ t → Tells t (Column ws) (Plane ws)
+    go true q = λ y v. let j = b.rows y (omega (arith, eqb-true edge h q)) in (j.0, j.1)
+    go false q = λ P. eqb-false edge h q (border_end ws edge i P u b ∙ sym e)
 
 -- ---- down the right side of tile i, which is known from row y up; tile s is the next
 pub record Down (ws : List ℕ) (i y s : ℕ) : Type 0 where

@@ -5,8 +5,7 @@ use mathlib.Core.Path.{◌≡◌, refl}
 use mathlib.Core.Logic.{◌⊎◌, inl, inr}
 use mathlib.Core.List.{List}
 use lib.ListN.{length}
-use Rattle.plane.specs.declared.answer.Answer.{Answer}
-use Rattle.plane.specs.declared.answer.Answer.TheVariants.{Done, No}
+use Rattle.std.specs.Prelude.{Result, Ok, Err}
 use Rattle.plane.specs.declared.answer.Refusal.{Refusal}
 use Rattle.plane.specs.Answers.{refusal_number, number}
 use Rattle.plane.specs.Words.{width, height, room_in, TableLength, PictureTable}
@@ -23,8 +22,8 @@ pub record Passed (ws : List ℕ) : Type 0 where
   pub long : TableLength (length ws)
   pub table : PictureTable ws
 
-pub vetted_done : {ws : List ℕ} {a : Answer} → Vetted ws (number a) → a ≡ Done → Passed ws
-vetted_done {ws} T e =
+pub vetted_done : {R : Type 0} {ws : List ℕ} {a : Result R Refusal} {x : R} → Vetted ws (number a) → a ≡ Ok x → Passed ws
+vetted_done {R} {ws} T e =
     let g = told_done (vet_refusals ws) one_three T.number e in
     record { long = g.0; table = g.1.0 }
 
@@ -36,8 +35,8 @@ pub passed_words : {ws : List ℕ} → Passed ws → 13 ≤ length ws
 passed_words P = omega (arith, P.long.words, P.long.least)
 
 -- what is no table is no table of a size either
-pub sized_no : {ws : List ℕ} (w h : ℕ) {a : Answer} {why : Refusal} → Vetted ws (number a) → a ≡ No why → SizedRight ws w h (refusal_number why)
-sized_no {ws} w h {a} {why} T e = record { number = go (told_no (vet_refusals ws) T.number e) }
+pub sized_no : {R : Type 0} {ws : List ℕ} (w h : ℕ) {a : Result R Refusal} {why : Refusal} → Vetted ws (number a) → a ≡ Err why → SizedRight ws w h (refusal_number why)
+sized_no {R} {ws} w h {a} {why} T e = record { number = go (told_no (vet_refusals ws) T.number e) }
   where
     go : ((TableLength (length ws) → ⊥) × (refusal_number why ≡ 1)) ⊎ (TableLength (length ws) × (((PictureTable ws → ⊥) × (refusal_number why ≡ 3)) ⊎ (PictureTable ws × (refusal_number why ≡ 0))))
         → ((TableLength (length ws) → ⊥) × (refusal_number why ≡ 1)) ⊎ (TableLength (length ws) × (((TableOf w h ws → ⊥) × (refusal_number why ≡ 3)) ⊎ (TableOf w h ws × (refusal_number why ≡ 0))))
@@ -53,11 +52,11 @@ pub sized_right : {ws : List ℕ} {w h : ℕ} → Passed ws → width ws ≡ w �
 sized_right P a b = record { number = inr (P.long, inr (record { table = P.table; wide = a; tall = b }, refl)) }
 
 -- a table of that size that passed
-pub sized_done : {ws : List ℕ} {w h : ℕ} {a : Answer} → SizedRight ws w h (number a) → a ≡ Done → Passed ws × TableOf w h ws
-sized_done {ws} {w} {h} T e =
+pub sized_done : {R : Type 0} {ws : List ℕ} {w h : ℕ} {a : Result R Refusal} {x : R} → SizedRight ws w h (number a) → a ≡ Ok x → Passed ws × TableOf w h ws
+sized_done {R} {ws} {w} {h} T e =
     let g = told_done (sized_refusals ws w h) one_three T.number e in
     (record { long = g.0; table = g.1.0.table }, g.1.0)
 
 -- one answer
-pub vet_once : {ws : List ℕ} (r r' : Answer) → Vetted ws (number r) → Vetted ws (number r') → r ≡ r'
+pub vet_once : {ws : List ℕ} (r r' : Result (Unit {0}) Refusal) → Vetted ws (number r) → Vetted ws (number r') → r ≡ r'
 vet_once {ws} r r' p q = number_once r r' (lowest_once (vet_refusals ws) p.number q.number)

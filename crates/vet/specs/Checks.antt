@@ -1,26 +1,30 @@
 -- What each check of a table's words finds: steps of `vet`, which no reader of its promise needs.
-use Rattle.std.specs.Prelude.{ℕ, ◌+◌, ◌-◌, ◌*◌, ◌≤◌, ◌<◌, ◌≡◌, List}
+use Rattle.std.specs.Prelude.{ℕ, ◌-◌, ◌*◌, ◌≤◌, ◌<◌, ◌≡◌, List, Bool, true, false, ltb}
 use Rattle.plane.specs.Picture.{sum_to}
 use Rattle.plane.specs.Plane.{Boxes, InOrder, Stitches, ZeroAfter}
-use Rattle.plane.specs.Words.{count, width, height, word}
+use Rattle.plane.specs.declared.side.Side.{Side as TileSide}
+use Rattle.plane.specs.declared.side.Side.TheVariants.{Left, Bottom, Right, Top}
+use Rattle.plane.specs.Sides.{side_line, side_start, side_end}
+use Rattle.plane.specs.Words.{count, width, height, word, tile_of}
 
--- tile s meets the line with its word `edge`, and spans p from its word `low` to its word low + 2 (left 0, bottom 1, right 2, top 3)
-pub record Touches (ws : List ℕ) (s edge line low p : ℕ) : Type 0 where
+-- tile s has that side at the line, and p is along it
+pub record Touches (ws : List ℕ) (s : ℕ) (side : TileSide) (line p : ℕ) : Type 0 where
   pub counted : s < count ws
-  pub meets : word ws s edge ≡ line
-  pub from : word ws s low ≤ p
-  pub to : p < word ws s (low + 2)
+  pub meets : side_line (tile_of ws s) side ≡ line
+  pub from : side_start (tile_of ws s) side ≤ p
+  pub to : p < side_end (tile_of ws s) side
 
--- a stitch s to a tile that touches so, which is inside the window if m < n; 65535 if it is outside
-abbrev pub Joint : List ℕ → ℕ → ℕ → ℕ → ℕ → ℕ → ℕ → ℕ → Type 0
-Joint ws m n s edge line low p = (m < n → Touches ws s edge line low p) × (n ≤ m → s ≡ 65535)
+-- a stitch s to a tile that touches so, if there is one inside the window; 65535 if there is none
+abbrev pub Joint : List ℕ → Bool → ℕ → TileSide → ℕ → ℕ → Type 0
+Joint ws true s side line p = Touches ws s side line p
+Joint ws false s side line p = s ≡ 65535
 
 -- the four stitches of tile i: lb and bl name tiles that end where it begins, tr and rt tiles that begin where it ends
 pub record Joints (ws : List ℕ) (i : ℕ) : Type 0 where
-  pub lb : Joint ws 0 (word ws i 1) (word ws i 5) 3 (word ws i 1) 0 (word ws i 0)
-  pub bl : Joint ws 0 (word ws i 0) (word ws i 6) 2 (word ws i 0) 1 (word ws i 1)
-  pub tr : Joint ws (word ws i 2) (width ws) (word ws i 7) 0 (word ws i 2) 1 (word ws i 3 - 1)
-  pub rt : Joint ws (word ws i 3) (height ws) (word ws i 8) 1 (word ws i 3) 0 (word ws i 2 - 1)
+  pub lb : Joint ws (ltb 0 (word ws i 1)) (word ws i 5) Top (word ws i 1) (word ws i 0)
+  pub bl : Joint ws (ltb 0 (word ws i 0)) (word ws i 6) Right (word ws i 0) (word ws i 1)
+  pub tr : Joint ws (ltb (word ws i 2) (width ws)) (word ws i 7) Left (word ws i 2) (word ws i 3 - 1)
+  pub rt : Joint ws (ltb (word ws i 3) (height ws)) (word ws i 8) Bottom (word ws i 3) (word ws i 2 - 1)
 
 -- tile j begins at x on row y
 pub record Starts (ws : List ℕ) (j x y : ℕ) : Type 0 where

@@ -1,186 +1,177 @@
 // The tiles of a table one by one: the header, boxes, order, stitches, and the zero words behind them.
-ghost use Rattle.std.specs.Prelude.{◌<◌, ◌≤◌, length};
-ghost use Rattle.plane.specs.Words.{Says, Tells, Header, count};
+ghost use Rattle.std.specs.Prelude.{◌≡◌, ◌<◌, ◌≤◌, length};
+ghost use Rattle.plane.specs.Words.{Says, Tells, Header, count, width, height, kinds, word, tile_of};
 ghost use Rattle.plane.specs.Plane.{Boxed, Sized, Stitches, Boxes, InOrder, ZeroAfter, Plane};
 ghost use Rattle.vet.specs.Checks.{Touches, Joint, Joints, Sound};
 
-use plane::tile::{Tile, precedes};
-use plane::words::{in_range, nth_tile, wide, word_at};
+use plane::side::Side;
+use plane::tile::Tile;
+use plane::words::{in_range, nth_tile, word_at};
+
+// Words that have all the tiles that they count, behind a header in its ranges.
+#[derive(Clone, Copy)]
+pub struct Listed<'a> {
+    words: &'a [u16],
+    ghost whole: { Sized words.now },
+    ghost header: { Header words.now },
+}
 
 // Are the header's numbers in their ranges?
 pub fn header(t: &[u16]) -> bool
     requires { 4 ≤ length t.now }
     ensures { Says result (Header t.now) }
 {
-    if t[0] == 0 {
-        return false;
-    }
-    if !in_range(t[1], t[2], t[3]) {
-        return false;
-    }
-    true
+    t[0] != 0 && in_range(t[1], t[2], t[3])
 }
 
 // Is the tile a rectangle in a window w by h, of a type below k?
 pub fn boxed(a: Tile, w: u16, h: u16, k: u16) -> bool
     ensures { Says result (Boxed w h k a) }
 {
-    if a.right <= a.left {
-        return false;
-    }
-    if a.top <= a.bottom {
-        return false;
-    }
-    if w < a.right {
-        return false;
-    }
-    if h < a.top {
-        return false;
-    }
-    if k <= a.kind {
-        return false;
-    }
-    true
+    a.left < a.right && a.bottom < a.top && a.right <= w && a.top <= h && a.kind < k
 }
 
-// Is each tile a rectangle in the window, of a type below T?
-pub fn boxes(t: &[u16]) -> bool
-    requires { Sized t.now }
-    ensures { Says result (Boxes t.now) }
-{
-    let n = t[0] as usize;
-    let mut i: usize = 0;
-    while i < n {
-        if !boxed(nth_tile(t, i), t[1], t[2], t[3]) {
+impl<'a> Listed<'a> {
+    // The tiles of such words.
+    pub fn of(words: &'a [u16]) -> Listed<'a>
+        requires { (Sized words.now) × (Header words.now) }
+        ensures { result.words ≡ words.entry }
+    {
+        Listed { words }
+    }
+
+    // How many tiles there are.
+    pub fn count(self) -> u16
+        ensures { result ≡ count self.entry.words.now }
+    {
+        self.words[0]
+    }
+
+    // The window's width.
+    pub fn width(self) -> u16
+        ensures { result ≡ width self.entry.words.now }
+    {
+        self.words[1]
+    }
+
+    // The window's height.
+    pub fn height(self) -> u16
+        ensures { result ≡ height self.entry.words.now }
+    {
+        self.words[2]
+    }
+
+    // The number of types.
+    fn kinds(self) -> u16
+        ensures { result ≡ kinds self.entry.words.now }
+    {
+        self.words[3]
+    }
+
+    // Word k of tile i.
+    pub fn word(self, i: u16, k: usize) -> u16
+        requires { (i < count self.words.now) × (k < 9) }
+        ensures { result ≡ word self.entry.words.now i k }
+    {
+        word_at(self.words, usize::from(i), k)
+    }
+
+    // Tile i.
+    pub fn tile(self, i: u16) -> Tile
+        requires { i < count self.words.now }
+        ensures { result ≡ tile_of self.entry.words.now i }
+    {
+        nth_tile(self.words, usize::from(i))
+    }
+
+    // Is each tile a rectangle in the window, of a type below T?
+    pub fn boxes(self) -> bool
+        ensures { Says result (Boxes self.entry.words.now) }
+    {
+        for i in 0..self.count() {
+            if !boxed(self.tile(i), self.width(), self.height(), self.kinds()) {
+                return false;
+            }
+        }
+        true
+    }
+
+    // Does each tile come before the next?
+    pub fn in_order(self) -> bool
+        ensures { Says result (InOrder self.entry.words.now) }
+    {
+        for i in 1..self.count() {
+            if !self.tile(i - 1).precedes(self.tile(i)) {
+                return false;
+            }
+        }
+        true
+    }
+
+    // Are the words after the last tile zero? Each is looked at, with no way out in between, so that several go at a time.
+    pub fn zero_after(self) -> bool
+        ensures { Says result (ZeroAfter self.entry.words.now) }
+    {
+        let mut all = true;
+        for word in &self.words[4 + 9 * usize::from(self.count())..] {
+            all = all & (*word == 0);
+        }
+        all
+    }
+
+    // Does tile s have that side at the line, and does the side go past p?
+    pub fn touches(self, s: u16, side: Side, line: u16, p: u16) -> bool
+        ensures { Says result (Touches self.entry.words.now s side line p) }
+    {
+        if self.count() <= s {
             return false;
         }
-        i += 1;
+        let b = self.tile(s);
+        b.side_line(side) == line && b.side_start(side) <= p && p < b.side_end(side)
     }
-    true
-}
 
-// Does each tile come before the next?
-pub fn in_order(t: &[u16]) -> bool
-    requires { Sized t.now }
-    ensures { Says result (InOrder t.now) }
-{
-    let n = t[0] as usize;
-    let mut i: usize = 1;
-    while i < n {
-        if !precedes(nth_tile(t, i - 1), nth_tile(t, i)) {
-            return false;
+    // Is s a stitch to a tile that touches so, if that tile is inside the window?
+    pub fn linked(self, inside: bool, s: u16, side: Side, line: u16, p: u16) -> bool
+        ensures { Says result (Joint self.entry.words.now inside s side line p) }
+    {
+        if inside {
+            self.touches(s, side, line, p)
+        } else {
+            s == 65535
         }
-        i += 1;
     }
-    true
-}
 
-// Are the words after the last tile zero? Each is looked at, with no way out in between, so that several go at a time.
-pub fn zero_after(t: &[u16]) -> bool
-    requires { Sized t.now }
-    ensures { Says result (ZeroAfter t.now) }
-{
-    let n = t[0] as usize;
-    let mut all = true;
-    let mut m: usize = 4 + 9 * n;
-    while m < t.len() {
-        all = all & (t[m] == 0);
-        m += 1;
+    // Do the four stitches of tile i name tiles that touch it? In a plane they meet its sides, so three comparisons do where a square takes four.
+    pub fn stitched(self, i: u16) -> bool
+        requires { (i < count self.words.now) × (Boxes self.words.now) }
+        ensures { Says result (Joints self.entry.words.now i) }
+    {
+        let (w, h) = (self.width(), self.height());
+        let a = self.tile(i);
+        self.linked(0 < a.bottom, self.word(i, 5), Side::Top, a.bottom, a.left)
+            && self.linked(0 < a.left, self.word(i, 6), Side::Right, a.left, a.bottom)
+            && self.linked(a.right < w, self.word(i, 7), Side::Left, a.right, a.top - 1)
+            && self.linked(a.top < h, self.word(i, 8), Side::Bottom, a.top, a.right - 1)
     }
-    all
-}
 
-// Does tile s meet the line with its word `edge`, and span p from its word `low` to its word low + 2? (left 0, bottom 1, right 2, top 3)
-pub fn touches(t: &[u16], s: u16, edge: usize, line: u16, low: usize, p: u16) -> bool
-    requires { (Sized t.now) × (edge < 4) × (low < 2) }
-    ensures { Says result (Touches t.now s edge line low p) }
-{
-    if t[0] <= s {
-        return false;
-    }
-    let j = wide(s);
-    if word_at(t, j, edge) != line {
-        return false;
-    }
-    if p < word_at(t, j, low) {
-        return false;
-    }
-    if word_at(t, j, low + 2) <= p {
-        return false;
-    }
-    true
-}
-
-// Is s a stitch to a tile that touches so, which is inside the window if m < n?
-pub fn linked(t: &[u16], m: u16, n: u16, s: u16, edge: usize, line: u16, low: usize, p: u16) -> bool
-    requires { (Sized t.now) × (edge < 4) × (low < 2) }
-    ensures { Says result (Joint t.now m n s edge line low p) }
-{
-    if m < n {
-        if touches(t, s, edge, line, low, p) {
-            return true;
+    // Are all stitches true?
+    #[tactic(auto, using(crate::proofs::Joints::plane_joints))]
+    pub fn stitches(self) -> bool
+        requires { Boxes self.words.now }
+        ensures { Tells result (Stitches self.entry.words.now) (Plane self.entry.words.now) }
+    {
+        for i in 0..self.count() {
+            if !self.stitched(i) {
+                return false;
+            }
         }
-        return false;
+        true
     }
-    if s == 65535 {
-        return true;
-    }
-    false
-}
 
-// Do the four stitches of tile i name tiles that touch it? In a plane they meet its sides, so three comparisons do where a square takes four.
-pub fn stitched(t: &[u16], i: usize) -> bool
-    requires { (Sized t.now) × (i < count t.now) × (Boxes t.now) }
-    ensures { Says result (Joints t.now i) }
-{
-    let a = nth_tile(t, i);
-    if !linked(t, 0, a.bottom, word_at(t, i, 5), 3, a.bottom, 0, a.left) {
-        return false;
+    // The tiles and the stitches, each by itself.
+    pub fn sound(self) -> bool
+        ensures { Tells result (Sound self.entry.words.now) (Plane self.entry.words.now) }
+    {
+        self.boxes() && self.in_order() && self.stitches() && self.zero_after()
     }
-    if !linked(t, 0, a.left, word_at(t, i, 6), 2, a.left, 1, a.bottom) {
-        return false;
-    }
-    if !linked(t, a.right, t[1], word_at(t, i, 7), 0, a.right, 1, a.top - 1) {
-        return false;
-    }
-    if !linked(t, a.top, t[2], word_at(t, i, 8), 1, a.top, 0, a.right - 1) {
-        return false;
-    }
-    true
-}
-
-// Are all stitches true?
-pub fn stitches(t: &[u16]) -> bool
-    requires { (Sized t.now) × (Boxes t.now) }
-    ensures { Tells result (Stitches t.now) (Plane t.now) }
-{
-    let n = t[0] as usize;
-    let mut i: usize = 0;
-    while i < n {
-        if !stitched(t, i) {
-            return false;
-        }
-        i += 1;
-    }
-    true
-}
-
-// The tiles and the stitches, each by itself.
-pub fn sound(t: &[u16]) -> bool
-    requires { (Sized t.now) × (Header t.now) }
-    ensures { Tells result (Sound t.now) (Plane t.now) }
-{
-    if !boxes(t) {
-        return false;
-    }
-    if !in_order(t) {
-        return false;
-    }
-    if !stitches(t) {
-        return false;
-    }
-    if !zero_after(t) {
-        return false;
-    }
-    true
 }

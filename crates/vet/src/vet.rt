@@ -1,60 +1,67 @@
 // Is a slice of words a table? Linear in its tiles, with no working room: the tiles one by one (tiles.rt), then together (frames.rt).
-ghost use Rattle.std.specs.Prelude.{◌≡◌, ◌+◌, ◌*◌, length};
+ghost use Rattle.std.specs.Prelude.{◌≡◌, ◌+◌, ◌*◌, length, IfOk};
 ghost use Rattle.plane.specs.Answers.{number};
 ghost use Rattle.plane.specs.Words.{Says, IsTable};
 ghost use Rattle.vet.specs.Vet.{Vetted, SizedRight};
 
-use crate::frames::tiled;
-use crate::tiles::{header, sound};
-use plane::answer::{Answer, Refusal};
-use plane::words::{room_in, table_length, wide};
+use crate::frames::Sewn;
+use crate::tiles::{Listed, header};
+use plane::answer::Refusal;
+use plane::table::Table;
+use plane::words::{room_in, table_length};
 
 // Are the words of t the table of a picture, with room for so many tiles?
+#[tactic(auto, using(plane::proofs::FromTable::table_plane, plane::proofs::ToTable::plane_table))]
 pub fn is_table(t: &[u16], room: usize) -> bool
     requires { length t.now ≡ 4 + 9 * room }
     ensures { Says result (IsTable room t.now) }
 {
-    if room < wide(t[0]) {
+    if room < usize::from(t[0]) || !header(t) {
         return false;
     }
-    if !header(t) {
-        return false;
+    let tiles = Listed::of(t);
+    tiles.sound() && Sewn::of(tiles).tiled()
+}
+
+// The table that the words of a slice are, if it is as long as a table (1), and they are a picture's (3).
+#[tactic(auto, using(plane::proofs::FromTable::table_plane))]
+pub fn tested<'a>(t: &'a [u16]) -> Result<Table<'a>, Refusal>
+    ensures answer { Vetted t.now (number result) }
+    ensures table { IfOk result (λ b. b ≡ t.now) }
+{
+    if !table_length(t.len()) {
+        return Err(Refusal::Lengths);
     }
-    if !sound(t) {
-        return false;
+    if !is_table(t, room_in(t.len())) {
+        return Err(Refusal::NoTable);
     }
-    if !tiled(t) {
-        return false;
+    Ok(Table::of(t))
+}
+
+// The same, if the window is w by h too.
+pub fn tested_size<'a>(t: &'a [u16], w: u16, h: u16) -> Result<Table<'a>, Refusal>
+    ensures answer { SizedRight t.now w h (number result) }
+    ensures table { IfOk result (λ b. b ≡ t.now) }
+{
+    let table = tested(t)?;
+    if table.width() != w || table.height() != h {
+        return Err(Refusal::NoTable);
     }
-    true
+    Ok(table)
 }
 
 // Is the slice as long as a table (1), and are its words a picture's table (3)?
-pub fn vet(t: &[u16]) -> Answer
+pub fn vet(t: &[u16]) -> Result<(), Refusal>
     ensures { Vetted t.now (number result) }
 {
-    if !table_length(t.len()) {
-        return Answer::No(Refusal::Lengths);
-    }
-    if !is_table(t, room_in(t.len())) {
-        return Answer::No(Refusal::NoTable);
-    }
-    Answer::Done
+    tested(t)?;
+    Ok(())
 }
 
 // The same, and is the window w by h?
-pub fn vet_size(t: &[u16], w: u16, h: u16) -> Answer
+pub fn vet_size(t: &[u16], w: u16, h: u16) -> Result<(), Refusal>
     ensures { SizedRight t.now w h (number result) }
 {
-    let tested = vet(t);
-    if let Answer::No(why) = tested {
-        return Answer::No(why);
-    }
-    if t[1] != w {
-        return Answer::No(Refusal::NoTable);
-    }
-    if t[2] != h {
-        return Answer::No(Refusal::NoTable);
-    }
-    Answer::Done
+    tested_size(t, w, h)?;
+    Ok(())
 }
