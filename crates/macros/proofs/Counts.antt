@@ -2,7 +2,7 @@
 use Prim.Native.Nat.{ℕ, zero, suc, ◌+◌, ◌*◌, ◌^◌, ◌<◌}
 use mathlib.Core.Bool.{Bool, true, false, not, cond, ◌&&◌}
 use mathlib.Core.List.{[], ◌∷◌}
-use mathlib.Core.Path.{◌≡◌, refl, sym, ◌∙◌, ap, ap₂}
+use mathlib.Core.Path.{◌≡◌, refl, sym, ◌∙◌, ap₂}
 use native.Mathlib.Omega.{arith}
 use native.Mathlib.Nat.{add-mul, zero-mul}
 use lib.ListN.{length, length-append}
@@ -11,7 +11,7 @@ use lib.Count.{ones}
 use Rattle.plane.specs.Picture.{joined, sum_to}
 use Rattle.plane.proofs.Basics.{and_left}
 use Rattle.plane.proofs.Counting.{length_joined, sum_eq}
-use Rattle.macros.specs.declared.macros.Made.{Made}
+use Rattle.macros.specs.declared.pairs.Made.{Made}
 use Rattle.rules.specs.Sets.{member, within, others}
 use Rattle.macros.specs.Macros.{cell, made, row, row_if, rows, width, width_sound}
 use Rattle.macros.specs.Expansion.{width_count}
@@ -59,8 +59,3 @@ width_below t s d e =
 pub width_count_lem : (t s d reason : ℕ) → width_sound t s d ≡ true → length (width t s d reason) ≡ width_count t s
 unfolding width
 width_count_lem t s d reason e = rows_count t (others t s) s (record { d = d; allowed = s; corners = s; reason = reason }) (others_below t s) (width_below t s d e)
-
--- the rules, with the set that the code makes
-pub width_rows_lem : (t s d reason : ℕ) {f : ℕ} → f ≡ others t s → width t s d reason ≡ rows t t f s (record { d = d; allowed = s; corners = s; reason = reason })
-unfolding width
-width_rows_lem t s d reason e = ap (λ x. rows t t x s (record { d = d; allowed = s; corners = s; reason = reason })) (sym e)

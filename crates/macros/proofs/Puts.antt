@@ -1,5 +1,5 @@
 -- How rules that are written one after the other add up.
-use Prim.Native.Nat.{ℕ, zero, suc, ◌+◌, ◌*◌, ◌<◌, ◌≤◌}
+use Prim.Native.Nat.{ℕ, zero, suc, ◌+◌, ◌-◌, ◌*◌, ◌<◌, ◌≤◌}
 use mathlib.Core.Bool.{true, false, cond}
 use mathlib.Core.List.{List, [], ◌∷◌, ◌++◌, append_assoc}
 use mathlib.Core.Path.{◌≡◌, refl, sym, ◌∙◌, ap, ap₂, subst}
@@ -8,10 +8,11 @@ use native.Mathlib.Omega.{arith}
 use native.Mathlib.Numerals.{add-one}
 use native.Mathlib.Nat.{add-suc, suc-add, add-zero, eq-or-lt_of_le, le_of_suc-le-suc}
 use lib.ListN.{length, set, drop, length-append}
-use lib.Seq.{sets, length-sets, sets-eq}
+use lib.Seq.{sets, length-sets, sets-eq, drop-drop}
+use borrow.Rule.Slice.PartMut.{put_mid}
 use Rattle.plane.specs.Picture.{joined}
 use Rattle.rules.specs.declared.rule.Rule.{Rule}
-use Rattle.macros.specs.declared.macros.Made.{Made}
+use Rattle.macros.specs.declared.pairs.Made.{Made}
 use Rattle.rules.specs.Sets.{member}
 use Rattle.rules.specs.Words.{rule_words, words_of}
 use Rattle.macros.specs.Macros.{cell, made, row, row_if}
@@ -31,6 +32,12 @@ words_append (r ∷ rs) ss = ap (λ l. rule_words r ++ l) (words_append rs ss) �
 sets_append : (vs ws l : List ℕ) (i : ℕ) → sets l i (vs ++ ws) ≡ sets (sets l i vs) (i + length vs) ws
 sets_append [] ws l i = ap (λ n. sets l n ws) (sym (add-zero i))
 sets_append (v ∷ vs) ws l i = sets_append vs ws (set l i v) (suc i) ∙ ap (λ n. sets (sets (set l i v) (suc i) vs) n ws) (suc-add i (length vs) ∙ sym (add-suc i (length vs)))
+
+-- eight words in the place of the rule's
+pub put_words : (l ws : List ℕ) (n : ℕ) → length ws ≡ 8 → 8 * n + 8 ≤ length l → put_mid (8 * n) (8 * n + 8 - 8 * n) l ws ≡ sets l (8 * n) ws
+put_words l ws n e h =
+    let f : 8 * n + 8 - 8 * n ≡ length ws = omega arith in
+    rw (f, drop-drop, ← append_assoc) (sym (sets-eq ws l (8 * n) (omega arith)))
 
 -- ---- writing
 pub put_none : (n : ℕ) (l : List ℕ) → Put n n [] l l

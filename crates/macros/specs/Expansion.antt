@@ -2,7 +2,7 @@
 use Rattle.std.specs.Prelude.{ℕ, ◌+◌, ◌*◌, ◌/◌, ◌≤◌, Bool, true, cond, ◌≡◌, List, [], ◌∷◌, ◌++◌, length, take, drop, eqb}
 use Rattle.std.proofs.lemmas.List.Edits.{sets}
 use Rattle.std.specs.Int.Count.{ones}
-use Rattle.plane.specs.Refusal.{◌unless◌, Lowest, Outcome}
+use Rattle.plane.specs.Refusal.{◌unless◌, Outcome}
 use Rattle.rules.specs.declared.rule.Rule.{Rule}
 use Rattle.rules.specs.Sets.{others}
 use Rattle.rules.specs.Words.{words_of}
@@ -44,9 +44,9 @@ abbrev pub Spaced : List ℕ → ℕ → ℕ → ℕ → ℕ → ℕ → ℕ →
 Spaced ws used t a b d touch reason answer count after = Expanded ws used t (spacing_sound t a b d touch) (spacing t a b d touch reason) answer count after
 
 -- ---- steps
--- what the tests of a macro answer
-pub record MacroTested (n used t : ℕ) (ok : Bool) (k answer : ℕ) : Type 0 where
-  pub number : Lowest (macro_refusals n used t ok k) answer
+-- a list that is good takes the rules rs, where there is room for them
+pub record Appended (ws : List ℕ) (used : ℕ) (rs : List Rule) (answer count : ℕ) (after : List ℕ) : Type 0 where
+  pub outcome : Outcome (7 unless (used + length rs ≤ length ws / 8) ∷ []) (refused ws) (appended ws used rs) answer (record { used = count; words = after })
 
 -- the rules rs are written in a list from place n on, and r is the next place
 pub record Put (n r : ℕ) (rs : List Rule) (before after : List ℕ) : Type 0 where

@@ -1,5 +1,5 @@
--- What the contracts of the macros cite: the paper's width and spacing, the rules that they make, and what each call answers.
+-- What the contracts of the macros cite: width and spacing, the rules that they make, and what each call answers.
 pub mod Macros
 pub mod Expansion
-pub mod Made
+pub mod Both
 pub mod Worked

@@ -2,7 +2,7 @@
 use Rattle.std.specs.Prelude.{ℕ, ◌+◌, Bool, not, cond, ◌&&◌, ◌||◌, List, [], ◌∷◌, ◌++◌, eqb, leb}
 use Rattle.plane.specs.Picture.{joined}
 use Rattle.rules.specs.declared.rule.Rule.{Rule}
-use Rattle.macros.specs.declared.macros.Made.{Made}
+use Rattle.macros.specs.declared.pairs.Made.{Made}
 use Rattle.rules.specs.Sets.{member, within, others, disjoint}
 
 -- the rule that a macro makes for a pair of types: kind 0 with ce = d

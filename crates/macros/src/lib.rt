@@ -2,3 +2,5 @@
 #![tactic(auto)]
 
 pub mod macros;
+mod pairs;
+mod wanted;

@@ -1,4 +1,4 @@
--- What the contracts of the rules cite: the paper's edge rules, what they forbid, and what each call answers.
+-- What the contracts of the rules cite: the edge rules, what they forbid, and what each call answers.
 pub mod Some
 pub mod Sets
 pub mod Words

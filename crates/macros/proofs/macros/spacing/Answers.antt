@@ -1,27 +1,20 @@
--- `spacing`. Refused by the tests, or all of them passed: then the tail is lent to the writer and comes back.
-use Rattle.macros.proofs.Expands.{passed, tail_room, expanded_no, expanded_done}
-use Rattle.macros.proofs.Spaces.{spacing_count_lem}
+-- `spacing`. The ranges bound the sets; the rules from A to B, and those from B to A where the sets differ, are the macro's.
+use Rattle.macros.specs.Both.{rules_of_both}
 use Rattle.macros.specs.Macros.{spacing}
-use native.Mathlib.Omega.{arith}
+use Rattle.macros.proofs.Expands.{listed, expanded_by}
+use Rattle.macros.proofs.Spaces.{both_same, both_two}
+use mathlib.Core.Path.{◌≡◌, sym, ◌∙◌}
+use Rattle.macros.proofs.macros.spacing.Goals.{then-a-b, else-a-b}
 use Rattle.macros.proofs.macros.spacing.Goals as goal
-
-pub returns-in-No : goal.returns-in-No
-returns-in-No c =
-    let a = c.args in
-    expanded_no c.spacing_tests-tested.ensures (spacing_count_lem a.t a.a a.b a.d a.touch a.reason) c.in-No.is
-
-pub put_spacing-n-requires : goal.put_spacing-n-requires
-put_spacing-n-requires c =
-    let a = c.args in
-    let P = passed c.spacing_tests-tested.ensures (spacing_count_lem a.t a.a a.b a.d a.touch a.reason) c.in_default.is in
-    (P.listed.kinds.sixteen, P.inside, tail_room a.rules.now a.used (spacing a.t a.a a.b a.d a.touch a.reason) P.fits)
-
-pub overflow_add-result : goal.overflow_add-result
-overflow_add-result c =
-    let a = c.args in
-    omega (arith, passed c.spacing_tests-tested.ensures (spacing_count_lem a.t a.a a.b a.d a.touch a.reason) c.in_default.is, c.put_spacing-n.ensures.next)
 
 pub returns : goal.returns
 returns c =
     let a = c.args in
-    expanded_done (passed c.spacing_tests-tested.ensures (spacing_count_lem a.t a.a a.b a.d a.touch a.reason) c.in_default.is) c.put_spacing-n.ensures
+    let e : rules_of_both c.half-there.result c.if-a-b.back ≡ spacing a.t a.a a.b a.d a.touch a.reason =
+    elim c.if-a-b.branch [
+      | then-a-b w ↦ rw w.back-is (both_same a.t a.a a.b a.d a.touch a.reason c.half-there.result w.if-a-b.true c.half-there.ensures)
+      | else-a-b w ↦
+          let back = rw w.exchanged.ensures at w.half.ensures in
+          rw w.back-is (both_two a.t a.a a.b a.d a.touch a.reason c.half-there.result w.half.result w.if-a-b.false c.half-there.ensures back)
+    ] in
+    expanded_by (listed c.in_ok-list_tests.ensures) (sym c.is_sound.ensures ∙ c.if-not-is_sound.false) (rw e at c.append.ensures)
