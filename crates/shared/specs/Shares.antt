@@ -1,18 +1,8 @@
 -- The tiles that a table shares with a slice of n tiles, and the numbers that they have in the two.
-use Rattle.std.specs.Prelude.{ℕ, ◌+◌, ◌≤◌, ◌<◌, ◌≡◌, List}
+use Rattle.std.specs.Prelude.{Option, Some, None, ℕ, ◌+◌, ◌≤◌, ◌<◌, ◌≡◌, ◌⊎◌, List}
 use Rattle.plane.specs.Words.{count, tile_of}
 use Rattle.shared.specs.declared.shared.Shared.{Shared}
 use Rattle.shared.specs.declared.shared.Links.{Links}
-
--- the first r tiles of the two are the same
-pub record SameFirst (ws vs : List ℕ) (k r : ℕ) : Type 0 where
-  pub most : r ≤ k
-  pub same : (i : ℕ) → i < r → tile_of vs i ≡ tile_of ws i
-
--- the last r of the m tiles of ws are the last r of the n tiles of vs: tiles i and j as far from the end
-pub record SameLast (ws : List ℕ) (m : ℕ) (vs : List ℕ) (n k r : ℕ) : Type 0 where
-  pub most : r ≤ k
-  pub same : (i j : ℕ) → m ≤ i + r → i < m → j + m ≡ i + n → tile_of vs j ≡ tile_of ws i
 
 -- the table ws and the n tiles of vs share the tiles that s says: the first ones, and the last ones
 pub record Alike (ws vs : List ℕ) (n : ℕ) (s : Shared) : Type 0 where
@@ -25,15 +15,23 @@ pub record Alike (ws vs : List ℕ) (n : ℕ) (s : Shared) : Type 0 where
   pub first : (i : ℕ) → i < s.low → tile_of vs i ≡ tile_of ws i
   pub last : (i j : ℕ) → s.old ≤ i → i < s.end → j + s.old ≡ s.new + i → tile_of vs j ≡ tile_of ws i
 
--- r is the number in the one table of the shared tile g of the other, or 65535
-pub data Moved (s : Shared) (g r : ℕ) : Type 0 where
-  stays : g < s.low → r ≡ g → Moved s g r
-  shifts : s.old ≤ g → g < s.end → r + s.old ≡ s.new + g → Moved s g r
-  lost : r ≡ 65535 → Moved s g r
+-- tile g of the one table is shared
+abbrev pub IsShared : Shared → ℕ → Type 0
+IsShared s g = (g < s.low) ⊎ ((s.old ≤ g) × (g < s.end))
+
+-- the number in the one table of tile g of the other; none where it is not shared
+abbrev pub Moved : Shared → ℕ → Option ℕ → Type 0
+Moved s g (Some r) = ((g < s.low) × (r ≡ g)) ⊎ ((s.old ≤ g) × (g < s.end) × (r + s.old ≡ s.new + g))
+Moved s g None = IsShared s g → ⊥
 
 -- each of the four numbers is moved
-pub record MovedLinks (s : Shared) (g r : Links) : Type 0 where
+pub record MovedLinks (s : Shared) (g : Links ℕ) (r : Links (Option ℕ)) : Type 0 where
   pub lb : Moved s g.lb r.lb
   pub bl : Moved s g.bl r.bl
   pub tr : Moved s g.tr r.tr
   pub rt : Moved s g.rt r.rt
+
+-- the four that are known, if each is
+abbrev pub AllKnown : {T : Type 0} → Links (Option T) → Option (Links T) → Type 0
+AllKnown g (Some l) = (g.lb ≡ Some l.lb) × (g.bl ≡ Some l.bl) × (g.tr ≡ Some l.tr) × (g.rt ≡ Some l.rt)
+AllKnown g None = (g.lb ≡ None) ⊎ ((g.bl ≡ None) ⊎ ((g.tr ≡ None) ⊎ (g.rt ≡ None)))

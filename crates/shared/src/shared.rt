@@ -1,19 +1,16 @@
 // What two tables share: their first tiles, their last tiles, and the number that such a tile has in the other table.
-ghost use Rattle.std.specs.Prelude.{◌≡◌, ◌+◌, ◌*◌, ◌≤◌, length};
-ghost use Rattle.plane.specs.Plane.{Plane};
-ghost use Rattle.plane.specs.Words.{Says};
-ghost use Rattle.shared.specs.Shares.{Alike, Moved, MovedLinks, SameFirst, SameLast};
+ghost use Rattle.std.specs.Prelude.{ℕ, true, ◌+◌, ◌<◌, ◌≤◌};
 
-use plane::tile::Tile;
-use plane::words::{least, nth_tile, wide};
+use plane::table::Table;
+use slots::slots::Slots;
 
-// The four stitches of a tile.
+// The same for each of the four stitches of a tile: its word, what is known of it, or where it leads.
 #[derive(Clone, Copy)]
-pub struct Links {
-    pub lb: u16,
-    pub bl: u16,
-    pub tr: u16,
-    pub rt: u16,
+pub struct Links<T> {
+    pub lb: T,
+    pub bl: T,
+    pub tr: T,
+    pub rt: T,
 }
 
 // The tiles that two tables share: the first `low` of both, and tiles `old` to `end` - 1 of the one, which are those from `new` on in the other.
@@ -23,107 +20,98 @@ pub struct Shared {
     pub old: usize,
     pub end: usize,
     pub new: usize,
+    pub ghost parts: { (low ≤ old) × (low ≤ new) × (old ≤ end) × (new + end ≤ 65535 + old) },
 }
 
-// Are the two tiles one?
-fn same_tile(a: Tile, b: Tile) -> bool
-    ensures { Says result (a ≡ b) }
-{
-    if a.left != b.left {
-        return false;
-    }
-    if a.bottom != b.bottom {
-        return false;
-    }
-    if a.right != b.right {
-        return false;
-    }
-    if a.top != b.top {
-        return false;
-    }
-    if a.kind != b.kind {
-        return false;
-    }
-    true
-}
-
-// How many first tiles of the two are the same, looking at the first `most`.
-fn same_first(t: &[u16], work: &[u16], most: usize) -> usize
-    requires { (4 + 9 * most ≤ length t.now) × (4 + 9 * most ≤ length work.now) }
-    ensures { SameFirst t.now work.now most result }
-{
-    let mut i = 0;
-    while i < most {
-        if same_tile(nth_tile(work, i), nth_tile(t, i)) {
-            i += 1;
-        } else {
-            return i;
+impl<T: Copy> Links<T> {
+    // What a step makes of each of the four.
+    pub fn map<R, F: Fn(T) -> R>(self, f: F) -> Links<R>
+        requires { F.pre f self.lb × F.pre f self.bl × F.pre f self.tr × F.pre f self.rt }
+        ensures { F.post f self.lb result.lb × F.post f self.bl result.bl × F.post f self.tr result.tr × F.post f self.rt result.rt }
+    {
+        Links {
+            lb: f(self.lb),
+            bl: f(self.bl),
+            tr: f(self.tr),
+            rt: f(self.rt),
         }
     }
-    most
 }
 
-// How many last tiles of the m and n tiles are the same, looking at the last `most`.
-fn same_last(t: &[u16], m: usize, work: &[u16], n: usize, most: usize) -> usize
-    requires { (4 + 9 * m ≤ length t.now) × (4 + 9 * n ≤ length work.now) × (most ≤ m) × (most ≤ n) }
-    ensures { SameLast t.now m work.now n most result }
+impl<T: Copy> Links<Option<T>> {
+    ghost use Rattle.shared.specs.Shares.{AllKnown};
+
+    // All four, if each is known.
+    pub fn all(self) -> Option<Links<T>>
+        ensures { AllKnown self result }
+    {
+        Some(Links {
+            lb: self.lb?,
+            bl: self.bl?,
+            tr: self.tr?,
+            rt: self.rt?,
+        })
+    }
+}
+
+impl Links<u16> {
+    ghost use Rattle.shared.specs.Shares.{MovedLinks};
+
+    // The numbers that the tiles of the four numbers have in the other table.
+    pub fn moved(self, s: Shared) -> Links<Option<u16>>
+        ensures { MovedLinks s self result }
+    {
+        self.map(|g| s.moved(g))
+    }
+}
+
+impl Shared {
+    ghost use Rattle.std.specs.Prelude.{◌≡◌};
+    ghost use Rattle.shared.specs.Shares.{Alike, Moved};
+
+    // The tiles that a table and the working slice share.
+    pub fn of(table: &Table<'_>, work: Slots<'_>) -> Shared
+        requires { work.count ≤ 65535 }
+        ensures { Alike table.now work.entry.words.now work.entry.count result }
+    {
+        let t = Slots::of(table);
+        let m = t.count;
+        let n = work.count;
+        let most = m.min(n);
+        let low = same_run(most, |k| work.nth(k) == t.nth(k));
+        let high = same_run(most - low, |k| work.nth(n - 1 - k) == t.nth(m - 1 - k));
+        Shared {
+            low,
+            old: m - high,
+            end: m,
+            new: n - high,
+        }
+    }
+
+    // The number that tile g of the one table has in the other, if they share it.
+    pub fn moved(self, g: u16) -> Option<u16>
+        ensures { Moved self g result }
+    {
+        let i = usize::from(g);
+        if i < self.low {
+            return Some(g);
+        }
+        if self.old <= i && i < self.end {
+            return Some((self.new + (i - self.old)) as u16);
+        }
+        None
+    }
+}
+
+// How many of the first `most` pairs of tiles are the same, up to the first that is not.
+fn same_run<F: Fn(usize) -> bool>(most: usize, same: F) -> usize
+    requires { (k : ℕ) → k < most → F.pre same k }
+    ensures { (result ≤ most) × ((k : ℕ) → k < result → F.post same k true) }
 {
-    let mut k = 0;
-    while k < most {
-        if same_tile(nth_tile(work, n - 1 - k), nth_tile(t, m - 1 - k)) {
-            k += 1;
-        } else {
+    for k in 0..most {
+        if !same(k) {
             return k;
         }
     }
     most
-}
-
-// The tiles that t and the first n tiles of the working slice share.
-pub fn shared_tiles(t: &[u16], work: &[u16], n: usize) -> Shared
-    requires plane { Plane t.now }
-    requires n_in_bounds { (4 + 9 * n ≤ length work.now) × (n ≤ 65535) }
-    ensures { Alike t.now work.now n result }
-{
-    let m = wide(t[0]);
-    let most = wide(least(t[0], n as u16));
-    let low = same_first(t, work, most);
-    let k = same_last(t, m, work, n, most - low);
-    Shared {
-        low,
-        old: m - k,
-        end: m,
-        new: n - k,
-    }
-}
-
-// The number that a shared tile of number g has in the other table; 65535 for any other number.
-fn moved(g: u16, s: Shared) -> u16
-    requires { s.new + s.end ≤ 65535 + s.old }
-    ensures { Moved s g result }
-{
-    let i = wide(g);
-    if i < s.low {
-        return g;
-    }
-    if i < s.old {
-        return 65535;
-    }
-    if i < s.end {
-        return (s.new + (i - s.old)) as u16;
-    }
-    65535
-}
-
-// The four numbers moved.
-pub fn moved_links(g: Links, s: Shared) -> Links
-    requires { s.new + s.end ≤ 65535 + s.old }
-    ensures { MovedLinks s g result }
-{
-    Links {
-        lb: moved(g.lb, s),
-        bl: moved(g.bl, s),
-        tr: moved(g.tr, s),
-        rt: moved(g.rt, s),
-    }
 }

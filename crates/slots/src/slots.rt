@@ -18,7 +18,7 @@ pub struct Slots<'a> {
 impl<'a> Slots<'a> {
     // The tiles of a table.
     pub fn of(table: &Table<'a>) -> Slots<'a>
-        ensures { (result.words.now ≡ table.now) × (result.count ≡ count table.now) }
+        ensures { (result.words.now ≡ table.now) × (result.count ≡ count table.now) × (result.count ≤ 65535) }
     {
         Slots {
             words: table.words(),
@@ -75,6 +75,20 @@ impl<'a> Slots<'a> {
             }
         }
         None
+    }
+
+    // A tile that holds (x,y): tile k if it does, or else one looked for from tile i down and then up.
+    pub fn find_near(self, k: usize, i: usize, x: u16, y: u16) -> Option<usize>
+        requires { i ≤ self.count }
+        ensures { Sought self.entry.words.now 0 self.entry.count x y result }
+    {
+        if self.held_at(k, x, y) {
+            return Some(k);
+        }
+        match self.find_back(i, x, y) {
+            None => self.find_on(i, x, y),
+            below => below,
+        }
     }
 
     // Is there a tile k, and does it hold (x,y)?
