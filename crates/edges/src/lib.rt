@@ -3,4 +3,4 @@
 
 mod edge;
 pub mod near;
-mod turn;
+pub mod turn;

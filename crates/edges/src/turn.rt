@@ -40,7 +40,7 @@ impl Turn {
     };
 
     // Towards the other end.
-    pub fn mirrored(self) -> Turn
+    pub(crate) fn mirrored(self) -> Turn
         ensures { result ≡ flip_e self }
     {
         Turn {
@@ -51,7 +51,7 @@ impl Turn {
     }
 
     // Crossed the other way.
-    pub fn reversed(self) -> Turn
+    pub(crate) fn reversed(self) -> Turn
         ensures { result ≡ flip_w self }
     {
         Turn {
@@ -74,7 +74,7 @@ pub struct Side {
 
 impl Side {
     // Looked at towards the other end.
-    pub fn mirrored(self) -> Side
+    pub(crate) fn mirrored(self) -> Side
         ensures { (result.turn ≡ flip_e self.turn) × (result.at ≡ self.at) }
     {
         Side {
@@ -84,7 +84,7 @@ impl Side {
     }
 
     // Crossed the other way.
-    pub fn reversed(self) -> Side
+    pub(crate) fn reversed(self) -> Side
         ensures { (result.turn ≡ flip_w self.turn) × (result.at ≡ self.at) }
     {
         Side {
