@@ -1,56 +1,60 @@
 -- The picture after a brush, and its pieces: what the brush sets (its area, or a run of equal bits), and a tile of the table clipped by it, are of one type.
-use Prim.Native.Nat.{ℕ, ◌+◌, ◌-◌, ◌≤◌}
+use Prim.Native.Nat.{ℕ, ◌+◌, ◌-◌, ◌≤◌, ◌<◌}
 use native.Mathlib.Omega.{arith}
-use mathlib.Core.Bool.{true, false}
-use mathlib.Core.Path.{◌≡◌, refl, sym, ◌∙◌, ap, subst}
+use mathlib.Core.Bool.{true}
+use mathlib.Core.Path.{◌≡◌, sym, ◌∙◌, subst}
 use mathlib.Core.Logic.{⊎_elim}
 use mathlib.Core.List.{List}
 use lib.ListN.{get_or}
+use Rattle.plane.specs.declared.tile.Area.{Area}
 use Rattle.plane.specs.declared.tile.Tile.{Tile}
-use Rattle.plane.specs.Picture.{Picture, bit_of, holds}
+use Rattle.plane.specs.Picture.{Picture, bit_of, holds, in_area}
 use Rattle.plane.specs.Plane.{Names}
-use Rattle.plane.specs.Strips.{Holds, Strip}
-use Rattle.plane.specs.Words.{height, picture_of, tile_of, width}
+use Rattle.plane.specs.Strips.{Strip}
+use Rattle.plane.specs.Words.{tile_of}
 use Rattle.brush.specs.declared.brush.Brush.{Brush}
-use Rattle.brush.specs.Brush.{BrushIn, Clipped, Flat, Given, InkTile, SameBits, after, brush_tile, goal, inked}
-use Rattle.plane.proofs.Basics.{bool_cases, eq_or_ne, lt_or_ge}
+use Rattle.brush.specs.declared.brush.Ink.TheVariants.{Flat as OneType, Bits}
+use Rattle.brush.specs.Brush.{BrushIn, Canvas, Clipped, Flat, Given, InArea, InkTile, SameBits, after, goal_of, ink_at, inked, tall, wide}
+use Rattle.plane.proofs.Basics.{bool_cases}
 use Rattle.plane.proofs.Index.{holds_true, true_holds}
 
+-- ---- the squares of an area
+abbrev box_of : Area → Tile
+box_of a = record { left = a.x1; bottom = a.y1; right = a.x2; top = a.y2; kind = 0 }
+
+pub in_true : (a : Area) (x y : ℕ) → InArea a x y → in_area a x y ≡ true
+unfolding in_area holds
+in_true a x y h = true_holds (box_of a) x y h
+
+pub true_in : (a : Area) (x y : ℕ) → in_area a x y ≡ true → InArea a x y
+unfolding in_area holds
+true_in a x y e = holds_true (box_of a) x y e
+
 -- ---- the picture after
-pub after_in : (p : Picture) (b : Brush) (x y : ℕ) → Holds (brush_tile b) x y → after p b x y ≡ inked b x y
+pub after_in : (p : Picture) (b : Brush) (x y : ℕ) → InArea b.area x y → after p b x y ≡ inked b x y
 unfolding after
-after_in p b x y h = rw (true_holds (brush_tile b) x y h)
+after_in p b x y h = rw (in_true b.area x y h)
 
-pub after_out : (p : Picture) (b : Brush) (x y : ℕ) → (Holds (brush_tile b) x y → ⊥) → after p b x y ≡ p x y
+pub after_out : (p : Picture) (b : Brush) (x y : ℕ) → (InArea b.area x y → ⊥) → after p b x y ≡ p x y
 unfolding after
-after_out p b x y h = ⊎_elim (λ e. absurd (h (holds_true (brush_tile b) x y e))) (λ e. rw e) (bool_cases (holds (brush_tile b) x y))
-
--- ---- equal bits of a word
-pub bits_none : {word bit l : ℕ} → SameBits word bit l l
-bits_none = record { order = omega arith; each = λ j u v. absurd (omega arith) }
-
--- equal bits on both sides of an equal bit
-pub bits_join : {word bit l m n r : ℕ} → SameBits word bit l m → bit_of word m ≡ bit → n ≡ m + 1 → SameBits word bit n r → SameBits word bit l r
-bits_join {m = m} A e f B = record {
-  order = omega arith;
-  each = λ j u v. ⊎_elim (A.each j u) (λ w. ⊎_elim (λ p. rw p e) (λ q. B.each j (omega arith) v) (eq_or_ne j m)) (lt_or_ge j m);
-}
+after_out p b x y h = ⊎_elim (λ e. absurd (h (true_in b.area x y e))) (λ e. rw e) (bool_cases (in_area b.area x y))
 
 -- ---- the ink of the area
-pub ink_bits : {b : Brush} {x y l r bit : ℕ} (row : ℕ) → b.bits ≡ true → Holds (brush_tile b) x y → row ≡ y - b.y1
-    → SameBits (get_or b.rows row 0) bit l (x - b.x1) → bit ≡ bit_of (get_or b.rows row 0) (x - b.x1)
-    → b.x1 + r ≤ b.x2 → SameBits (get_or b.rows row 0) bit (x - b.x1 + 1) r
-    → InkTile b x y (record { left = b.x1 + l; bottom = y; right = b.x1 + r; top = y + 1; kind = bit })
-unfolding inked
-ink_bits {b} {x} {y} row o h e L f m R = record {
-  here = omega arith;
-  inside = λ i z v. omega arith;
-  each = λ i z v. let q : z ≡ y = omega arith in rw (o, q, sym e) (sym ((bits_join L (sym f) refl R).each (i - b.x1) (omega arith) (omega arith)));
-}
+pub ink_flat : {b : Brush} {x y k : ℕ} → b.ink ≡ OneType k → InArea b.area x y
+    → InkTile b x y (record { left = b.area.x1; bottom = b.area.y1; right = b.area.x2; top = b.area.y2; kind = k })
+unfolding ink_at
+ink_flat e h = record { here = omega (arith, h); inside = λ i z v. omega (arith, v); each = λ i z v. rw e }
 
-pub ink_flat : {b : Brush} {x y : ℕ} {t : Tile} → b.bits ≡ false → Holds (brush_tile b) x y → t ≡ brush_tile b → InkTile b x y t
-unfolding inked
-ink_flat {b} {x} {y} {t} o h e = subst (λ (u : Tile). InkTile b x y u) (sym e) (record { here = h; inside = λ i z v. v; each = λ i z v. rw o })
+-- the run of equal bits of row y around x
+pub ink_bits : {b : Brush} {x y l r row word : ℕ} {rows : List ℕ} → b.ink ≡ Bits rows → InArea b.area x y → row ≡ y - b.area.y1 → word ≡ get_or rows row 0
+    → l ≤ x - b.area.x1 → x - b.area.x1 < r → r ≤ b.area.x2 - b.area.x1 → SameBits word (bit_of word (x - b.area.x1)) l r
+    → InkTile b x y (record { left = b.area.x1 + l; bottom = y; right = b.area.x1 + r; top = y + 1; kind = bit_of word (x - b.area.x1) })
+unfolding ink_at
+ink_bits {b} {x} {y} {row = row} o h e f u v w S = record {
+  here = omega (arith, h);
+  inside = λ i z g. omega (arith, h, g);
+  each = λ i z g. let q : z ≡ y = omega (arith, g) in rw (o, q, sym e, sym f) (sym (S.each (i - b.area.x1) (omega (arith, g)) (omega (arith, g))));
+}
 
 -- ---- a clipped tile is of one type
 pub clip_flat : {w h : ℕ} {p : Picture} {s : Tile} {b : Brush} {x y : ℕ} {t : Tile} → Strip w h p s → BrushIn w h b → Clipped s b x y t → Flat w h (after p b) x y t
@@ -66,13 +70,8 @@ clip_flat {w} {h} {p} {s} {b} {x} {y} {t} S A C = record {
     roof : t.top ≤ h
     roof = ⊎_elim (λ v. omega arith) (λ v. omega (arith, S.box)) (C.each x (t.top - 1) (omega arith))
 
--- ---- a tile that was named and read
-pub read_at : (ws : List ℕ) {i j : ℕ} {s : Tile} → j ≡ i → s ≡ tile_of ws j → s ≡ tile_of ws i
-read_at ws e f = f ∙ ap (tile_of ws) e
-
-pub named_holds : {ws : List ℕ} {k j x y : ℕ} {s : Tile} → Names ws k x y → j ≡ k → s ≡ tile_of ws j → Holds s x y
-named_holds {ws} {x = x} {y = y} N e f = subst (λ (u : Tile). Holds u x y) (sym (read_at ws e f)) N.held
-
-pub named_flat : {ws : List ℕ} {b : Brush} {k j x y : ℕ} {s t : Tile} → Given ws b → Names ws k x y → j ≡ k → s ≡ tile_of ws j → Clipped s b x y t → Flat (width ws) (height ws) (goal ws b) x y t
-named_flat {ws} {k = k} G N e f C =
-    clip_flat (subst (λ (u : Tile). Strip (width ws) (height ws) (picture_of ws) u) (sym (read_at ws e f)) (G.shown.each k N.counted)) G.brush C
+-- ---- a tile that was named, read and clipped by the brush of the painting
+pub named_flat : {c : Canvas} {i x y : ℕ} {s t : Tile} {b : Brush} → Given c.words c.brush → Names c.words i x y → s ≡ tile_of c.words i → b ≡ c.brush
+    → Clipped s b x y t → Flat (wide c) (tall c) (goal_of c) x y t
+named_flat {c} {i} {x} {y} {s} {t} {b} G N e f C =
+    clip_flat (G.shown.each i N.counted) G.brush (subst (λ (d : Brush). Clipped (tile_of c.words i) d x y t) f (subst (λ (u : Tile). Clipped u b x y t) e C))

@@ -1,13 +1,15 @@
 -- The picture after a brush: its pieces, runs and strips, as they are read off the table before.
-use Rattle.std.specs.Prelude.{ℕ, ◌+◌, ◌-◌, ◌*◌, ◌≤◌, ◌<◌, ◌≡◌, true, cond, ◌⊎◌, List, length, get_or}
+use Rattle.std.specs.Prelude.{ℕ, ◌+◌, ◌-◌, ◌*◌, ◌^◌, ◌≤◌, ◌<◌, ◌≡◌, cond, ◌⊎◌, List, length, get_or}
 use Rattle.plane.specs.declared.tile.Tile.{Tile}
 use Rattle.plane.specs.declared.tile.Area.{Area}
-use Rattle.plane.specs.Picture.{Picture, holds, bit_of}
+use Rattle.plane.specs.Picture.{Picture, in_area, bit_of}
 use Rattle.plane.specs.Strips.{Run, Box, Strip, Holds, Precedes}
 use Rattle.plane.specs.Words.{count, width, height, tile_of, picture_of}
 use Rattle.plane.specs.Plane.{Plane}
 use Rattle.plane.specs.Area.{AreaIn}
 use Rattle.brush.specs.declared.brush.Brush.{Brush}
+use Rattle.brush.specs.declared.brush.Ink.{Ink}
+use Rattle.brush.specs.declared.brush.Ink.TheVariants.{Flat as OneType, Bits}
 
 -- ---- the brush, and the picture after it
 
@@ -16,27 +18,37 @@ pub record Small (a : Area) : Type 0 where
   pub columns : a.x2 ≤ a.x1 + 48
   pub rows : a.y2 ≤ a.y1 + 48
 
--- the squares that a brush sets, as an area
-abbrev pub brush_area : Brush → Area
-brush_area b = record { x1 = b.x1; y1 = b.y1; x2 = b.x2; y2 = b.y2 }
+-- (x,y) is a square of the area
+abbrev pub InArea : Area → ℕ → ℕ → Type 0
+InArea a x y = Holds (record { left = a.x1; bottom = a.y1; right = a.x2; top = a.y2; kind = 0 }) x y
 
--- the same as a tile, of the brush's one kind
-abbrev pub brush_tile : Brush → Tile
-brush_tile b = record { left = b.x1; bottom = b.y1; right = b.x2; top = b.y2; kind = b.kind }
+-- an ink of bits sets a small area
+abbrev pub SmallInk : Ink → Area → Type 0
+SmallInk (OneType k) a = Unit {0}
+SmallInk (Bits rows) a = Small a
+
+-- the brush's area is small if it sets bits
+abbrev pub SmallBits : Brush → Type 0
+SmallBits b = SmallInk b.ink b.area
 
 -- its area lies in a window w by h, and is small if it sets bits
 pub record BrushIn (w h : ℕ) (b : Brush) : Type 0 where
-  pub area : AreaIn w h (brush_area b)
-  pub small : b.bits ≡ true → Small (brush_area b)
+  pub area : AreaIn w h b.area
+  pub small : SmallBits b
 
--- the type that a brush gives a square of its area: its one kind, or the square's bit
-unfoldable pub inked : Brush → ℕ → ℕ → ℕ
-inked b x y = cond b.bits (bit_of (get_or b.rows (y - b.y1) 0) (x - b.x1)) b.kind
+-- the type that an ink gives a square of an area: its one type, or the square's bit
+unfoldable pub ink_at : Ink → Area → ℕ → ℕ → ℕ
+ink_at (OneType k) a x y = k
+ink_at (Bits rows) a x y = bit_of (get_or rows (y - a.y1) 0) (x - a.x1)
+
+-- the type that a brush gives a square of its area
+abbrev pub inked : Brush → ℕ → ℕ → ℕ
+inked b x y = ink_at b.ink b.area x y
 
 -- the picture after
 unfoldable pub after : Picture → Brush → Picture
-unfolding holds inked
-after p b x y = cond (holds (brush_tile b) x y) (inked b x y) (p x y)
+unfolding in_area ink_at
+after p b x y = cond (in_area b.area x y) (inked b x y) (p x y)
 
 -- the picture of a table after
 abbrev pub goal : List ℕ → Brush → Picture
@@ -59,6 +71,23 @@ pub record Given (ws : List ℕ) (b : Brush) : Type 0 where
   pub shown : Shown ws
   pub brush : BrushIn (width ws) (height ws) b
 
+-- a painting, as contracts see it: the words of its table, and its brush
+pub record Canvas : Type 0 where
+  pub words : List ℕ
+  pub brush : Brush
+
+-- the window's width
+abbrev pub wide : Canvas → ℕ
+wide c = width c.words
+
+-- its height
+abbrev pub tall : Canvas → ℕ
+tall c = height c.words
+
+-- the picture after
+abbrev pub goal_of : Canvas → Picture
+goal_of c = goal c.words c.brush
+
 -- tile k is one of the table's, to look from, and (x,y) is a square of its window
 pub record Near (ws : List ℕ) (k x y : ℕ) : Type 0 where
   pub counted : k < count ws
@@ -78,15 +107,19 @@ pub record SameBits (word bit l r : ℕ) : Type 0 where
   pub order : l ≤ r
   pub each : (j : ℕ) → l ≤ j → j < r → bit_of word j ≡ bit
 
+-- where `other` has a zero, the word has the bit of its place i
+abbrev pub OtherBits : ℕ → ℕ → ℕ → Type 0
+OtherBits word i other = (other < 2 ^ 64) × ((j : ℕ) → j < 64 → bit_of other j ≡ 0 → bit_of word j ≡ bit_of word i)
+
 -- a rectangle of one type in the brush's area
 pub record InkTile (b : Brush) (x y : ℕ) (t : Tile) : Type 0 where
   pub here : Holds t x y
-  pub inside : (i z : ℕ) → Holds t i z → Holds (brush_tile b) i z
+  pub inside : (i z : ℕ) → Holds t i z → InArea b.area i z
   pub each : (i z : ℕ) → Holds t i z → t.kind ≡ inked b i z
 
 -- (i,z) is in the brush's area and t has its type; or it is outside, in s, and t has the type of s
 abbrev pub Cut : Tile → Brush → Tile → ℕ → ℕ → Type 0
-Cut s b t i z = (Holds (brush_tile b) i z × (t.kind ≡ inked b i z)) ⊎ ((Holds (brush_tile b) i z → ⊥) × Holds s i z × (t.kind ≡ s.kind))
+Cut s b t i z = (InArea b.area i z × (t.kind ≡ inked b i z)) ⊎ ((InArea b.area i z → ⊥) × Holds s i z × (t.kind ≡ s.kind))
 
 -- t holds (x,y), and is in the area, or in s and outside the area
 pub record Clipped (s : Tile) (b : Brush) (x y : ℕ) (t : Tile) : Type 0 where

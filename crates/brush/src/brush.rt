@@ -1,131 +1,113 @@
-// The picture after a brush, read off the table before: this is the one place where the new picture enters.
-ghost use Rattle.std.specs.Prelude.{◌<◌, ◌≤◌, ◌≡◌, true};
+// A brush: the squares that it sets, and what it sets them to. This is the one place where the new picture enters.
+ghost use Rattle.std.specs.Prelude.{◌<◌, ◌≤◌, ◌≡◌};
 ghost use Rattle.plane.specs.Picture.{bit_of};
-ghost use Rattle.plane.specs.Plane.{Names};
 ghost use Rattle.plane.specs.Strips.{Holds};
-ghost use Rattle.plane.specs.Words.{width, height};
-ghost use Rattle.brush.specs.Brush.{brush_tile, brush_area, Small, Given, goal, SameBits, InkTile, Clipped, Flat};
+ghost use Rattle.brush.specs.Brush.{InArea, SmallBits, OtherBits, SameBits, InkTile, Clipped};
 
-use plane::tile::Tile;
-use plane::words::{least, most, nth_tile, wide};
+use plane::tile::{Area, Tile};
 
-// The squares with x1 <= x < x2 and y1 <= y < y2, and what they are set to: one kind, or bits, bit x - x1 of row y - y1.
+// What the squares of an area are set to: all to one type, or each to a bit, bit x - x1 of word y - y1.
 #[derive(Clone, Copy)]
-pub struct Brush {
-    pub x1: u16,
-    pub y1: u16,
-    pub x2: u16,
-    pub y2: u16,
-    pub kind: u16,
-    pub bits: bool,
-    pub rows: [u64; 48],
+pub enum Ink {
+    Flat(u16),
+    Bits([u64; 48]),
 }
 
-// All of its area, as a tile of its one kind.
-pub fn brush_tile(b: Brush) -> Tile
-    ensures { result ≡ brush_tile b }
-{
-    Tile {
-        left: b.x1,
-        bottom: b.y1,
-        right: b.x2,
-        top: b.y2,
-        kind: b.kind,
-    }
+// An area, and what its squares are set to.
+#[derive(Clone, Copy)]
+pub struct Brush {
+    pub area: Area,
+    pub ink: Ink,
 }
 
 // Bit i of a word.
-fn bit_at(word: u64, i: u16) -> u64
+fn bit_at(word: u64, i: u16) -> u16
     requires { i < 64 }
     ensures { result ≡ bit_of word i }
 {
-    (word >> (i as u64)) % 2
+    ((word >> u64::from(i)) % 2) as u16
 }
 
-// Up to which place the bits of a word from i on are all `bit`: n at most.
-fn same_right(word: u64, bit: u64, i: u16, n: u16) -> u16
-    requires { (i ≤ n) × (n ≤ 64) }
-    ensures { (result ≤ n) × SameBits word bit i result }
+// The places of a word whose bits are not that of place i, as ones.
+fn other_bits(word: u64, i: u16) -> u64
+    requires { i < 64 }
+    ensures { OtherBits word i result }
 {
-    let mut j = i;
-    while j < n {
-        if bit_at(word, j) != bit {
-            return j;
+    if bit_at(word, i) == 0 { word } else { !word }
+}
+
+// From where to where the bits of a word around place i, below place n, are those of place i: to the next other bit on each side.
+fn same_bits(word: u64, i: u16, n: u16) -> (u16, u16)
+    requires { (i < n) × (n ≤ 48) }
+    ensures { (result.0 ≤ i) × (i < result.1) × (result.1 ≤ n) × SameBits word (bit_of word i) result.0 result.1 }
+{
+    let other = other_bits(word, i);
+    let below = other % (1 << u64::from(i));
+    let above = other >> u64::from(i + 1);
+    let left = (64 - below.leading_zeros()) as u16;
+    let right = i + 1 + above.trailing_zeros() as u16;
+    (left, right.min(n))
+}
+
+impl Brush {
+    // A rectangle of one type in the brush's area, that holds (x,y): all of it, or of bits the run of equal bits of row y.
+    pub fn ink_tile(&self, x: u16, y: u16) -> Tile
+        requires inside { InArea self.now.area x y }
+        requires small { SmallBits self.now }
+        ensures { InkTile self.now x y result }
+    {
+        let a = self.area;
+        match &self.ink {
+            Ink::Flat(kind) => Tile {
+                left: a.x1,
+                bottom: a.y1,
+                right: a.x2,
+                top: a.y2,
+                kind: *kind,
+            },
+            Ink::Bits(rows) => {
+                let word = rows[usize::from(y - a.y1)];
+                let (left, right) = same_bits(word, x - a.x1, a.x2 - a.x1);
+                Tile {
+                    left: a.x1 + left,
+                    bottom: y,
+                    right: a.x1 + right,
+                    top: y + 1,
+                    kind: bit_at(word, x - a.x1),
+                }
+            }
         }
-        j += 1;
     }
-    j
-}
 
-// From which place on the bits of a word below i are all `bit`.
-fn same_left(word: u64, bit: u64, i: u16) -> u16
-    requires { i ≤ 64 }
-    ensures { SameBits word bit result i }
-{
-    let mut j = i;
-    while 0 < j {
-        if bit_at(word, j - 1) != bit {
-            return j;
+    // A part of s outside the brush's area, or a part of that area, that holds (x,y).
+    pub fn clip(&self, s: Tile, x: u16, y: u16) -> Tile
+        requires holds { Holds s x y }
+        requires small { SmallBits self.now }
+        ensures { Clipped s self.now x y result }
+    {
+        let a = self.area;
+        if y < a.y1 {
+            Tile {
+                top: s.top.min(a.y1),
+                ..s
+            }
+        } else if a.y2 <= y {
+            Tile {
+                bottom: s.bottom.max(a.y2),
+                ..s
+            }
+        } else if x < a.x1 {
+            Tile {
+                right: s.right.min(a.x1),
+                ..s
+            }
+        } else if a.x2 <= x {
+            Tile {
+                left: s.left.max(a.x2),
+                ..s
+            }
+        } else {
+            self.ink_tile(x, y)
         }
-        j -= 1;
     }
-    j
-}
-
-// A rectangle of one type in the brush's area, that holds (x,y): all of it, or of bits the run of equal bits of row y.
-pub fn ink_tile(b: Brush, x: u16, y: u16) -> Tile
-    requires holds { Holds (brush_tile b) x y }
-    requires small { b.bits ≡ true → Small (brush_area b) }
-    ensures { InkTile b x y result }
-{
-    if b.bits {
-        let row = wide(y - b.y1);
-        let word = b.rows[row];
-        let i = x - b.x1;
-        let bit = bit_at(word, i);
-        return Tile {
-            left: b.x1 + same_left(word, bit, i),
-            bottom: y,
-            right: b.x1 + same_right(word, bit, i + 1, b.x2 - b.x1),
-            top: y + 1,
-            kind: bit as u16,
-        };
-    }
-    brush_tile(b)
-}
-
-// A part of s outside the brush's area, or a part of that area, that holds (x,y).
-pub fn clip(s: Tile, b: Brush, x: u16, y: u16) -> Tile
-    requires holds { Holds s x y }
-    requires small { b.bits ≡ true → Small (brush_area b) }
-    ensures { Clipped s b x y result }
-{
-    let mut r = s;
-    if y < b.y1 {
-        r.top = least(s.top, b.y1);
-        return r;
-    }
-    if b.y2 <= y {
-        r.bottom = most(s.bottom, b.y2);
-        return r;
-    }
-    if x < b.x1 {
-        r.right = least(s.right, b.x1);
-        return r;
-    }
-    if b.x2 <= x {
-        r.left = most(s.left, b.x2);
-        return r;
-    }
-    ink_tile(b, x, y)
-}
-
-// A rectangle of one type of the picture after, that holds (x,y): a part of tile k of t, which holds it, or of the brush's area.
-pub fn piece(t: &[u16], b: Brush, k: u16, x: u16, y: u16) -> Tile
-    requires given { Given t.now b }
-    requires names { Names t.now k x y }
-    ensures { Flat (width t.now) (height t.now) (goal t.now b) x y result }
-{
-    let s = nth_tile(t, wide(k));
-    clip(s, b, x, y)
 }

@@ -2,4 +2,5 @@
 #![tactic(auto)]
 
 pub mod brush;
+pub mod painting;
 pub mod runs;

@@ -11,7 +11,7 @@ use Rattle.plane.specs.Strips.{Holds, Strip, Strips}
 use Rattle.plane.specs.Words.{count, height, picture_of, tile_of, up_to, width}
 use Rattle.brush.specs.declared.brush.Brush.{Brush}
 use Rattle.brush.specs.Brush.{Given, goal}
-use Rattle.strips.specs.Cover.{AllUnder, Built, CoveredBy, CoversZone, Grown, Kept, LowTo, Untouched, Working, above_it, left_of, right_of}
+use Rattle.strips.specs.Cover.{AllBuilt, AllUnder, CoveredBy, Grown, Kept, LowTo, TooMany, Untouched, Working, ZoneCovered, above_it, left_of, right_of}
 use Rattle.slots.specs.Slots.{Appended, Has}
 use Rattle.plane.proofs.Basics.{lt_or_ge}
 use Rattle.plane.proofs.Index.{length_up_to, mem_up_to, ordered_up_to, up_to_append, up_to_mem}
@@ -26,41 +26,41 @@ abbrev tile_from : List ℕ → ℕ → ℕ → Tile
 tile_from ws j i = tile_of ws (j + i)
 
 -- ---- the area and what is beside it covered: with the tiles that begin higher, all is
-module _ {ws us vs : List ℕ} {b : Brush} {j k m : ℕ} (I : Given ws b) (L : LowTo ws b j) (K : Kept ws b us j k)
-    (G : Grown (width ws) (height ws) (goal ws b) (min (b.y2 + 1) (height ws)) us k vs m)
-    (Z : (i z : ℕ) → b.x1 - 1 ≤ i → i < min (b.x2 + 1) (width ws) → z < min (b.y2 + 1) (height ws) → CoveredBy vs m i z) where
+module _ {ws us vs : List ℕ} {b : Brush} {j k m : ℕ} (I : Given ws b) (L : LowTo ws b.area j) (K : Kept ws b us j k)
+    (G : Grown (width ws) (height ws) (goal ws b) (min (b.area.y2 + 1) (height ws)) us k vs m)
+    (Z : (i z : ℕ) → b.area.x1 - 1 ≤ i → i < min (b.area.x2 + 1) (width ws) → z < min (b.area.y2 + 1) (height ws) → CoveredBy vs m i z) where
   -- a strip that the area does not touch is a tile of the table
-  was_in : {g : Tile} → Strip (width ws) (height ws) (goal ws b) g → Untouched g b → Has ws (count ws) g
+  was_in : {g : Tile} → Strip (width ws) (height ws) (goal ws b) g → Untouched g b.area → Has ws (count ws) g
   was_in {g} B A =
-      let S = apart_strip (agree_back b (after_agrees (picture_of ws) b)) A B in
+      let S = apart_strip (agree_back b.area (after_agrees (picture_of ws) b)) A B in
       let d = I.shown.cover g.left g.bottom (omega (arith, B.box)) (omega (arith, B.box)) in
       (d.0, d.1, strip_one (I.shown.each d.0 d.1) S g.left g.bottom d.2 (own_corner S))
 
   -- so, if it begins low, it was kept
-  stays_in : {g : Tile} → Strip (width ws) (height ws) (goal ws b) g → Untouched g b → g.bottom ≤ b.y2 → Has vs m g
+  stays_in : {g : Tile} → Strip (width ws) (height ws) (goal ws b) g → Untouched g b.area → g.bottom ≤ b.area.y2 → Has vs m g
   stays_in {g} B A o =
       let d = was_in B A in
-      let r = K.apart d.0 (low_number L d.0 d.1 (omega (arith, ap (λ (t : Tile). t.bottom) d.2))) (subst (λ (t : Tile). Untouched t b) (sym d.2) A) in
+      let r = K.apart d.0 (low_number L d.0 d.1 (omega (arith, ap (λ (t : Tile). t.bottom) d.2))) (subst (λ (t : Tile). Untouched t b.area) (sym d.2) A) in
       grown_has G (r.0, r.1, r.2 ∙ d.2)
 
   is_in : {g : Tile} (x y : ℕ) → Strip (width ws) (height ws) (goal ws b) g → Holds g x y → CoveredBy vs m x y → Has vs m g
   is_in x y B H r = (r.0, r.1, strip_one (G.part.each r.0 r.1) B x y r.2 H)
 
   -- all strips that begin low are there
-  low_in : {g : Tile} → Strip (width ws) (height ws) (goal ws b) g → g.bottom ≤ b.y2 → Has vs m g
+  low_in : {g : Tile} → Strip (width ws) (height ws) (goal ws b) g → g.bottom ≤ b.area.y2 → Has vs m g
   low_in {g} B v =
-      ⊎_elim (λ (u : g.bottom < b.y1). is_in g.left g.bottom B (own_corner B)
+      ⊎_elim (λ (u : g.bottom < b.area.y1). is_in g.left g.bottom B (own_corner B)
       (grown_covered G g.left g.bottom (kept_low I L K g.left g.bottom (omega (arith, B.box)) (omega (arith, B.box)) u)))
-      (λ (u : b.y1 ≤ g.bottom). ⊎_elim (λ (o : g.right < b.x1). stays_in B (left_of o) v)
-      (λ (o : b.x1 ≤ g.right). ⊎_elim (λ (c : b.x2 < g.left). stays_in B (right_of c) v)
-      (λ (c : g.left ≤ b.x2). is_in (max g.left (b.x1 - 1)) g.bottom B (omega (arith, B.box, I.brush))
-      (Z (max g.left (b.x1 - 1)) g.bottom (omega arith) (omega (arith, B.box, I.brush)) (omega (arith, B.box))))
-      (lt_or_ge b.x2 g.left))
-      (lt_or_ge g.right b.x1))
-      (lt_or_ge g.bottom b.y1)
+      (λ (u : b.area.y1 ≤ g.bottom). ⊎_elim (λ (o : g.right < b.area.x1). stays_in B (left_of o) v)
+      (λ (o : b.area.x1 ≤ g.right). ⊎_elim (λ (c : b.area.x2 < g.left). stays_in B (right_of c) v)
+      (λ (c : g.left ≤ b.area.x2). is_in (max g.left (b.area.x1 - 1)) g.bottom B (omega (arith, B.box, I.brush))
+      (Z (max g.left (b.area.x1 - 1)) g.bottom (omega arith) (omega (arith, B.box, I.brush)) (omega (arith, B.box))))
+      (lt_or_ge b.area.x2 g.left))
+      (lt_or_ge g.right b.area.x1))
+      (lt_or_ge g.bottom b.area.y1)
 
   -- and the others are the tiles of the table that begin higher
-  high_in : {g : Tile} → Strip (width ws) (height ws) (goal ws b) g → b.y2 < g.bottom → (i : ℕ) × (i < count ws - j) × (tile_from ws j i ≡ g)
+  high_in : {g : Tile} → Strip (width ws) (height ws) (goal ws b) g → b.area.y2 < g.bottom → (i : ℕ) × (i < count ws - j) × (tile_from ws j i ≡ g)
   high_in {g} B v =
       let d = was_in B (above_it v) in
       let o = high_number L d.0 (omega (arith, ap (λ (t : Tile). t.bottom) d.2)) in
@@ -68,7 +68,7 @@ module _ {ws us vs : List ℕ} {b : Brush} {j k m : ℕ} (I : Given ws b) (L : L
       (d.0 - j, omega (arith, d.1), ap (tile_of ws) e ∙ d.2)
 
   -- what is there begins low: it was kept, or it was put in for a square of the zone
-  all_low : (i : ℕ) → i < m → (tile_of vs i).bottom ≤ b.y2
+  all_low : (i : ℕ) → i < m → (tile_of vs i).bottom ≤ b.area.y2
   all_low i u = ⊎_elim
       (λ v. omega arith)
       (λ r. let d = K.from r.0 r.1 in omega (arith, L.low d.0 d.1, d.2.bottom, ap (λ (t : Tile). t.bottom) r.2))
@@ -88,50 +88,41 @@ module _ {ws us vs : List ℕ} {b : Brush} {j k m : ℕ} (I : Given ws b) (L : L
         (λ d.
         let r = up_to_mem (count ws - j) (tile_from ws j) d in
         let o : j + r.0 < count ws = omega (arith, r.1) in
-        keep_apart (I.shown.each (j + r.0) o) r.2 (above_it (L.high (j + r.0) (omega arith) o)))
+        keep_apart b (I.shown.each (j + r.0) o) r.2 (above_it (L.high (j + r.0) (omega arith) o)))
         (Memᴰ.append_cases (up_to m (tile_of vs)) e);
     cover = λ x y hx hy.
         let T = tiles_strips (width ws) (height ws) (goal ws b) in
         let d = T.cover x y hx hy in
         let B = T.each d.0 d.1 in
         ⊎_elim
-        (λ (u : b.y2 < d.0.bottom).
+        (λ (u : b.area.y2 < d.0.bottom).
         let r = high_in B u in
         (tile_from ws j r.0, Memᴰ.append_right (up_to m (tile_of vs)) (mem_up_to (count ws - j) (tile_from ws j) r.0 r.1), holds_at r.2 d.2))
-        (λ (u : d.0.bottom ≤ b.y2).
+        (λ (u : d.0.bottom ≤ b.area.y2).
         let r = low_in B u in
         (tile_of vs r.0, Memᴰ.append_left (up_to (count ws - j) (tile_from ws j)) (mem_up_to m (tile_of vs) r.0 r.1), holds_at r.2 d.2))
-        (lt_or_ge b.y2 d.0.bottom);
+        (lt_or_ge b.area.y2 d.0.bottom);
   }
 
   all_built : up_to m (tile_of vs) ++ up_to (count ws - j) (tile_from ws j) ≡ tiles (width ws) (height ws) (goal ws b)
   all_built = strips_are_tiles (width ws) (height ws) (goal ws b) _ all_strips
 
 -- what keep leaves is what the zone's cover is handed
-pub kept_working : {ws us : List ℕ} {b : Brush} {j k room : ℕ} → LowTo ws b j → Kept ws b us j k → count ws ≤ room → 4 + 9 * room ≤ length us → Working (width ws) (height ws) (goal ws b) us k room
+pub kept_working : {ws us : List ℕ} {b : Brush} {j k room : ℕ} → LowTo ws b.area j → Kept ws b us j k → count ws ≤ room → 4 + 9 * room ≤ length us → Working (width ws) (height ws) (goal ws b) us k room
 kept_working L K u v = record { few = omega (arith, K.few, L.most); long = v; part = K.part }
 
-pub kept_under : {ws us : List ℕ} {b : Brush} {j k : ℕ} → Given ws b → LowTo ws b j → Kept ws b us j k → AllUnder us k (width ws) b.y1
+pub kept_under : {ws us : List ℕ} {b : Brush} {j k : ℕ} → Given ws b → LowTo ws b.area j → Kept ws b us j k → AllUnder us k (width ws) b.area.y1
 kept_under I L K i z u v = kept_low I L K i z u (omega (arith, I.brush)) v
 
--- the three ends of the rebuild: no room for the zone's strips, none for the tiles that begin higher, and room for all
-module _ {ws us vs : List ℕ} {b : Brush} {j k m room : ℕ} (I : Given ws b) (L : LowTo ws b j) (K : Kept ws b us j k)
-    (C : CoversZone (width ws) (height ws) (goal ws b) room us k (b.x1 - 1) (min (b.x2 + 1) (width ws)) (min (b.y2 + 1) (height ws)) vs m) where
-  pub built_full : room < m → Built (width ws) (height ws) (goal ws b) room vs m
-  built_full u = record { full = C.full; built = λ v. absurd (omega arith) }
-
-  module _ {n i : ℕ} (u : m ≤ room) (e : n ≡ count ws) (f : i ≡ j) where
+-- the two ends of the rebuild that leave the zone covered: no room for the tiles that begin higher, and room for all
+module _ {ws us vs : List ℕ} {b : Brush} {j k m room : ℕ} (I : Given ws b) (L : LowTo ws b.area j) (K : Kept ws b us j k)
+    (C : ZoneCovered (width ws) (height ws) (goal ws b) room us k (b.area.x1 - 1) (min (b.area.x2 + 1) (width ws)) (min (b.area.y2 + 1) (height ws)) vs m) where
+  module _ {n i : ℕ} (e : n ≡ count ws) (f : i ≡ j) where
     whole : up_to m (tile_of vs) ++ up_to (n - i) (tile_from ws i) ≡ tiles (width ws) (height ws) (goal ws b)
-    whole = rw (e, f) (all_built I L K (C.grown u) (C.zone u))
+    whole = rw (e, f) (all_built I L K C.grown C.zone)
 
-    how_many : length (tiles (width ws) (height ws) (goal ws b)) ≡ m + (n - i)
-    how_many = sym (ap length whole) ∙ (length-append (up_to m (tile_of vs)) _ ∙ omega (arith, length_up_to m (tile_of vs), length_up_to (n - i) (tile_from ws i)))
+    pub built_over : room < m + (n - i) → TooMany (width ws) (height ws) (goal ws b) room
+    built_over o = omega (arith, ap length whole, length-append (up_to m (tile_of vs)) (up_to (n - i) (tile_from ws i)), length_up_to m (tile_of vs), length_up_to (n - i) (tile_from ws i))
 
-    pub built_over : room < m + (n - i) → Built (width ws) (height ws) (goal ws b) room vs (m + (n - i))
-    built_over o = record { full = λ v. omega (arith, how_many); built = λ v. absurd (omega arith) }
-
-    pub built_all : {xs : List ℕ} → m + (n - i) ≤ room → Appended ws i n vs m xs → Built (width ws) (height ws) (goal ws b) room xs (m + (n - i))
-    built_all {xs} o A = record {
-      full = λ v. absurd (omega arith);
-      built = λ v. up_to_append m (n - i) (tile_of xs) (tile_of vs) (tile_from ws i) A.old (λ k w. A.new k (omega arith)) ∙ whole;
-    }
+    pub built_all : {xs : List ℕ} → m + (n - i) ≤ room → Appended ws i n vs m xs → AllBuilt (width ws) (height ws) (goal ws b) room xs (m + (n - i))
+    built_all {xs} o A = record { few = o; built = up_to_append m (n - i) (tile_of xs) (tile_of vs) (tile_from ws i) A.old (λ k w. A.new k (omega arith)) ∙ whole }

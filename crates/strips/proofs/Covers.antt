@@ -5,44 +5,41 @@ use mathlib.Core.Path.{◌≡◌, sym, ◌∙◌, ap, subst}
 use mathlib.Core.Logic.{⊎_elim}
 use mathlib.Core.List.{List}
 use lib.ListN.{length}
+use Rattle.std.specs.Prelude.{None}
 use Rattle.plane.specs.declared.tile.Tile.{Tile}
 use Rattle.plane.specs.Picture.{Picture}
 use Rattle.plane.specs.Strips.{Holds, Strip}
 use Rattle.plane.specs.Words.{tile_of}
 use Rattle.strips.specs.declared.cover.Spot.{Spot}
 use Rattle.brush.specs.Brush.{Upward}
-use Rattle.strips.specs.Cover.{AllUnder, CoveredBy, Covers, CoversRow, CoversZone, Grown, RowUnder, SpotOf, Working}
+use Rattle.strips.specs.Cover.{AllUnder, Covered, CoveredBy, Grown, RowCovered, RowUnder, SpotOf, TooMany, Working, ZoneCovered}
 use Rattle.slots.specs.Slots.{Sought, WithTile}
 use Rattle.plane.proofs.Basics.{lt_or_ge}
 use Rattle.strips.proofs.Grows.{grown_covered, grown_same, grown_then, grown_with, new_strip, not_all}
 use Rattle.strips.proofs.Stays.{holds_at}
 
 -- ---- one square covered
-pub not_found : {ws : List ℕ} {n x y r : ℕ} → Sought ws 0 n x y r → n ≤ r → CoveredBy ws n x y → ⊥
-not_found F u d = F.none u d.0 (omega arith) d.1 d.2
+pub not_found : (ws : List ℕ) {n x y : ℕ} → Sought ws 0 n x y None → CoveredBy ws n x y → ⊥
+not_found ws F d = F d.0 (omega arith) d.1 d.2
 
 module _ {w h : ℕ} {q : Picture} {ws : List ℕ} {n room x y m : ℕ} {s : Tile} {r : Spot} (C : Working w h q ws n room) (e : SpotOf m s r) where
-  pub covers_found : {i : ℕ} → m ≡ n → Sought ws 0 n x y i → i < n → s ≡ tile_of ws i → Covers w h q room ws n x y ws r
-  covers_found {i} k F u o = record {
-    full = λ v. absurd (omega (arith, C.few));
-    grown = λ v. subst (λ (c : ℕ). Grown w h q (y + 1) ws n ws c) (sym (e.count ∙ k)) (grown_same C.part);
-    here = λ v. (i, omega arith, F.held u, e.right ∙ ap (λ (t : Tile). t.right) o, e.top ∙ ap (λ (t : Tile). t.top) o);
+  pub covers_found : {i : ℕ} → m ≡ n → (i < n) × Holds (tile_of ws i) x y → s ≡ tile_of ws i → Covered w h q room ws n x y ws r
+  covers_found {i} k F o = record {
+    few = omega (arith, C.few, e.count);
+    grown = subst (λ (c : ℕ). Grown w h q (y + 1) ws n ws c) (sym (e.count ∙ k)) (grown_same C.part);
+    here = (i, omega (arith, F.0, e.count), F.1, e.right ∙ ap (λ (t : Tile). t.right) o, e.top ∙ ap (λ (t : Tile). t.top) o);
   }
 
-  pub covers_new : {vs : List ℕ} → m ≡ n + 1 → n < room → Strip w h q s → Holds s x y → WithTile ws vs n s → Covers w h q room ws n x y vs r
+  pub covers_new : {vs : List ℕ} → m ≡ n + 1 → n < room → Strip w h q s → Holds s x y → WithTile ws vs n s → Covered w h q room ws n x y vs r
   covers_new {vs} k u S H W = record {
-    full = λ v. absurd (omega arith);
-    grown = λ v. subst (λ (c : ℕ). Grown w h q (y + 1) ws n vs c) (sym (e.count ∙ k)) (grown_with C.part S (omega (arith, H)) W);
-    here = λ v. let d = W.new in (d.0, omega (arith, d.1), holds_at d.2 H, e.right ∙ ap (λ (t : Tile). t.right) (sym d.2), e.top ∙ ap (λ (t : Tile). t.top) (sym d.2));
+    few = omega (arith, e.count);
+    grown = subst (λ (c : ℕ). Grown w h q (y + 1) ws n vs c) (sym (e.count ∙ k)) (grown_with C.part S (omega (arith, H)) W);
+    here = let d = W.new in (d.0, omega (arith, d.1, e.count), holds_at d.2 H, e.right ∙ ap (λ (t : Tile). t.right) (sym d.2), e.top ∙ ap (λ (t : Tile). t.top) (sym d.2));
   }
 
 -- no room for one that is not covered: the strips are more than the room
-pub covers_full : {w h : ℕ} {q : Picture} {ws : List ℕ} {n room x y : ℕ} {r : Spot} → Working w h q ws n room → r.count ≡ n + 1 → room ≤ n → x < w → y < h → (CoveredBy ws n x y → ⊥) → Covers w h q room ws n x y ws r
-covers_full {x = x} {y = y} C e u hx hy g = record {
-  full = λ v. omega (arith, not_all C.part x y hx hy g);
-  grown = λ v. absurd (omega arith);
-  here = λ v. absurd (omega arith);
-}
+pub covers_full : {w h : ℕ} {q : Picture} {ws : List ℕ} {n room x y : ℕ} → Working w h q ws n room → room ≤ n → x < w → y < h → (CoveredBy ws n x y → ⊥) → TooMany w h q room
+covers_full {x = x} {y = y} C u hx hy g = omega (arith, C.few, not_all C.part x y hx hy g)
 
 -- what is found above covered squares is a whole strip
 pub cover_strip : {w h : ℕ} {q : Picture} {ws : List ℕ} {n room x y : ℕ} {s : Tile} → Working w h q ws n room → Upward w h q x y s → RowUnder ws n x (x + 1) y → (CoveredBy ws n x y → ⊥) → Strip w h q s
@@ -68,44 +65,28 @@ module _ {w h : ℕ} {q : Picture} {room : ℕ} {ws : List ℕ} {n : ℕ} where
     row = λ i z b c. absurd (omega arith);
   }
 
-  module _ {x y : ℕ} {us vs : List ℕ} {r u : Spot} (R : RowSoFar w h q room ws n x y us r) (C : Covers w h q room us r.count r.right y vs u) where
-    pub row_more : u.count ≤ room → {m : ℕ} → m ≡ min r.top u.top → RowSoFar w h q room ws n x y vs (record { count = u.count; right = u.right; top = m })
-    row_more k {m} o =
-        let G = C.grown k in
-        let d = C.here k in
+  module _ {x y : ℕ} {us vs : List ℕ} {r u : Spot} (R : RowSoFar w h q room ws n x y us r) (C : Covered w h q room us r.count r.right y vs u) where
+    pub row_more : {m : ℕ} → m ≡ min r.top u.top → RowSoFar w h q room ws n x y vs (record { count = u.count; right = u.right; top = m })
+    row_more {m} o =
+        let d = C.here in
         let H = d.2 in
         record {
-          few = k;
-          grown = grown_then R.grown G (omega arith);
+          few = C.few;
+          grown = grown_then R.grown C.grown (omega arith);
           on = omega (arith, R.on);
           up = omega (arith, R.up);
           top = omega (arith, R.top);
           row = λ i z b c e f. ⊎_elim
-              (λ (v : i < r.right). grown_covered G i z (R.row i z b v e (omega arith)))
+              (λ (v : i < r.right). grown_covered C.grown i z (R.row i z b v e (omega arith)))
               (λ (v : r.right ≤ i). (d.0, d.1, omega (arith, H, d.3, d.4)))
               (lt_or_ge i r.right);
         }
 
-    pub row_right : u.count ≤ room → r.right < u.right
-    row_right k = let d = C.here k in omega (arith, d.2, d.3)
+    pub row_right : r.right < u.right
+    row_right = let d = C.here in omega (arith, d.2, d.3)
 
-    pub row_full : {e : ℕ} → room < u.count → CoversRow w h q room ws n x e y vs (record { count = u.count; right = r.right; top = r.top })
-    row_full k = record {
-      full = C.full;
-      grown = λ v. absurd (omega arith);
-      up = R.up;
-      top = R.top;
-      row = λ v. absurd (omega arith);
-    }
-
-  pub row_done : {x e y : ℕ} {vs : List ℕ} {r : Spot} → RowSoFar w h q room ws n x y vs r → e ≤ r.right → CoversRow w h q room ws n x e y vs r
-  row_done R o = record {
-    full = λ v. absurd (omega (arith, R.few));
-    grown = λ v. R.grown;
-    up = R.up;
-    top = R.top;
-    row = λ v i z b c. R.row i z b (omega arith);
-  }
+  pub row_done : {x e y : ℕ} {vs : List ℕ} {r : Spot} → RowSoFar w h q room ws n x y vs r → e ≤ r.right → RowCovered w h q room ws n x e y vs r
+  row_done R o = record { few = R.few; grown = R.grown; up = R.up; top = R.top; row = λ i z b c. R.row i z b (omega arith) }
 
   pub row_working : {x y : ℕ} {vs : List ℕ} {r : Spot} → Working w h q ws n room → RowSoFar w h q room ws n x y vs r → length vs ≡ length ws → Working w h q vs r.count room
   row_working C R e = record { few = R.few; long = omega (arith, C.long); part = R.grown.part }
@@ -129,15 +110,12 @@ module _ {w h : ℕ} {q : Picture} {room : ℕ} {ws : List ℕ} {n x e f : ℕ} 
   pub zone_under : {y m : ℕ} {vs : List ℕ} → ZoneSoFar w h q room ws n x e f y vs m → RowUnder vs m x e y
   zone_under {y} Z i a b c = Z.zone i (y - 1) a b (omega arith)
 
-  pub zone_more : {y m : ℕ} {us vs : List ℕ} {r : Spot} → ZoneSoFar w h q room ws n x e f y us m → CoversRow w h q room us m x e y vs r → y < f → r.count ≤ room → ZoneSoFar w h q room ws n x e f r.top vs r.count
-  zone_more {y} Z C o k = record {
-    few = k;
-    grown = grown_then Z.grown (C.grown k) (omega arith);
-    zone = λ i z a b c. ⊎_elim (λ (v : z < y). grown_covered (C.grown k) i z (Z.zone i z a b v)) (λ (v : y ≤ z). C.row k i z a b v c) (lt_or_ge z y);
+  pub zone_more : {y m : ℕ} {us vs : List ℕ} {r : Spot} → ZoneSoFar w h q room ws n x e f y us m → RowCovered w h q room us m x e y vs r → y < f → ZoneSoFar w h q room ws n x e f r.top vs r.count
+  zone_more {y} Z C o = record {
+    few = C.few;
+    grown = grown_then Z.grown C.grown (omega arith);
+    zone = λ i z a b c. ⊎_elim (λ (v : z < y). grown_covered C.grown i z (Z.zone i z a b v)) (λ (v : y ≤ z). C.row i z a b v c) (lt_or_ge z y);
   }
 
-  pub zone_full : {y m x' e' : ℕ} {us vs : List ℕ} {r : Spot} → CoversRow w h q room us m x e y vs r → room < r.count → CoversZone w h q room ws n x' e' f vs r.count
-  zone_full C k = record { full = C.full; grown = λ v. absurd (omega arith); zone = λ v. absurd (omega arith) }
-
-  pub zone_done : {y m x' e' : ℕ} {vs : List ℕ} → ZoneSoFar w h q room ws n x e f y vs m → x ≤ x' → e' ≤ e → f ≤ y → CoversZone w h q room ws n x' e' f vs m
-  zone_done Z a b c = record { full = λ v. absurd (omega (arith, Z.few)); grown = λ v. Z.grown; zone = λ v i z k l o. Z.zone i z (omega arith) (omega arith) (omega arith) }
+  pub zone_done : {y m x' e' : ℕ} {vs : List ℕ} → ZoneSoFar w h q room ws n x e f y vs m → x ≤ x' → e' ≤ e → f ≤ y → ZoneCovered w h q room ws n x' e' f vs m
+  zone_done Z a b c = record { few = Z.few; grown = Z.grown; zone = λ i z k l o. Z.zone i z (omega arith) (omega arith) (omega arith) }

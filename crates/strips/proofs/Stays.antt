@@ -4,12 +4,13 @@ use native.Mathlib.Omega.{arith}
 use mathlib.Core.Path.{◌≡◌, sym, ◌∙◌, ap, subst}
 use mathlib.Core.Logic.{inl, inr, ⊎_elim}
 use mathlib.Core.List.{List}
+use Rattle.plane.specs.declared.tile.Area.{Area}
 use Rattle.plane.specs.declared.tile.Tile.{Tile}
 use Rattle.plane.specs.Picture.{Picture}
 use Rattle.plane.specs.Strips.{Holds, Precedes, Run, Strip}
 use Rattle.plane.specs.Words.{count, height, tile_of, width}
 use Rattle.brush.specs.declared.brush.Brush.{Brush}
-use Rattle.brush.specs.Brush.{Given, Shown, Upward, after, brush_tile, goal}
+use Rattle.brush.specs.Brush.{Given, InArea, Shown, Upward, after, goal}
 use Rattle.strips.specs.Cover.{CoveredBy, Kept, LowTo, Part, SameStart, Untouched, above_it, below_it, left_of, right_of}
 use Rattle.slots.specs.Slots.{Has, Past, PlaceOf, PutTile}
 use Rattle.plane.proofs.Basics.{lt_or_ge}
@@ -18,14 +19,14 @@ use Rattle.slots.proofs.Places.{first_too}
 use Rattle.brush.proofs.Spans.{one_run}
 
 -- ---- two pictures that agree outside an area
-abbrev pub Agree : Picture → Picture → Brush → Type 0
-Agree p q b = (x y : ℕ) → (Holds (brush_tile b) x y → ⊥) → p x y ≡ q x y
+abbrev pub Agree : Picture → Picture → Area → Type 0
+Agree p q a = (x y : ℕ) → (InArea a x y → ⊥) → p x y ≡ q x y
 
-pub after_agrees : (p : Picture) (b : Brush) → Agree p (after p b) b
+pub after_agrees : (p : Picture) (b : Brush) → Agree p (after p b) b.area
 after_agrees p b x y h = sym (after_out p b x y h)
 
-pub agree_back : {p q : Picture} (b : Brush) → Agree p q b → Agree q p b
-agree_back b f x y h = sym (f x y h)
+pub agree_back : {p q : Picture} (a : Area) → Agree p q a → Agree q p a
+agree_back a f x y h = sym (f x y h)
 
 -- a run is the same where the two agree on it and beside it
 run_agree : {w : ℕ} {p q : Picture} {l r k y : ℕ} → ((x : ℕ) → l ≤ suc x → x ≤ r → p x y ≡ q x y) → l < r → Run w p l r k y → Run w q l r k y
@@ -36,15 +37,15 @@ run_agree {w} {p} {q} {l} {r} {k} {y} f o R = record {
 }
 
 -- the rows bottom-1 .. top, from left-1 to right, are outside the area
-outside : {t : Tile} {b : Brush} → Untouched t b → (x y : ℕ) → t.left ≤ suc x → x ≤ t.right → t.bottom ≤ suc y → y ≤ t.top → Holds (brush_tile b) x y → ⊥
+outside : {t : Tile} {a : Area} → Untouched t a → (x y : ℕ) → t.left ≤ suc x → x ≤ t.right → t.bottom ≤ suc y → y ≤ t.top → InArea a x y → ⊥
 outside (left_of u) x y b c d e h = omega arith
 outside (right_of u) x y b c d e h = omega arith
 outside (below_it u) x y b c d e h = omega arith
 outside (above_it u) x y b c d e h = omega arith
 
 -- so a strip that the area does not touch is a strip of both
-pub apart_strip : {w h : ℕ} {p q : Picture} {b : Brush} {t : Tile} → Agree p q b → Untouched t b → Strip w h p t → Strip w h q t
-apart_strip {w} {h} {p} {q} {b} {t} A P S = record {
+pub apart_strip : {w h : ℕ} {p q : Picture} {a : Area} {t : Tile} → Agree p q a → Untouched t a → Strip w h p t → Strip w h q t
+apart_strip {w} {h} {p} {q} {a} {t} A P S = record {
   box = S.box;
   rows = λ y u v. run_agree (λ x c d. A x y (outside P x y c d (omega arith) (omega arith))) S.box.wide (S.rows y u v);
   below = λ u R. S.below u (run_agree (λ x c d. sym (A x (t.bottom - 1) (outside P x (t.bottom - 1) c d (omega arith) (omega (arith, S.box))))) S.box.wide R);
@@ -52,10 +53,10 @@ apart_strip {w} {h} {p} {q} {b} {t} A P S = record {
 }
 
 -- below the area all runs are the same
-pub run_low : {w : ℕ} {p : Picture} (b : Brush) {l r k y : ℕ} → y < b.y1 → l < r → Run w p l r k y → Run w (after p b) l r k y
+pub run_low : {w : ℕ} {p : Picture} (b : Brush) {l r k y : ℕ} → y < b.area.y1 → l < r → Run w p l r k y → Run w (after p b) l r k y
 run_low {w} {p} b {l} {r} {k} {y} o u = run_agree (λ x c d. after_agrees p b x y (λ h. omega arith)) u
 
-pub low_run : {w : ℕ} (p : Picture) (b : Brush) {l r k y : ℕ} → y < b.y1 → l < r → Run w (after p b) l r k y → Run w p l r k y
+pub low_run : {w : ℕ} (p : Picture) (b : Brush) {l r k y : ℕ} → y < b.area.y1 → l < r → Run w (after p b) l r k y → Run w p l r k y
 low_run {w} p b {l} {r} {k} {y} o u = run_agree (λ x c d. sym (after_agrees p b x y (λ h. omega arith))) u
 
 -- ---- a strip from its lower row
@@ -68,7 +69,7 @@ upper_strip {w} {h} {q} {x} {y} {t} U f = record {
 }
 
 -- a tile of the table that begins below the area begins there after
-module _ {w h : ℕ} {p : Picture} (b : Brush) {s u : Tile} (S : Strip w h p s) (o : s.bottom < b.y1) (U : Upward w h (after p b) s.left s.bottom u) where
+module _ {w h : ℕ} {p : Picture} (b : Brush) {s u : Tile} (S : Strip w h p s) (o : s.bottom < b.area.y1) (U : Upward w h (after p b) s.left s.bottom u) where
   low_span : (u.left ≡ s.left) × (u.right ≡ s.right) × (u.kind ≡ s.kind)
   low_span =
       let r = U.steady.runs s.bottom (omega arith) (omega (arith, U.steady.here)) in
@@ -83,6 +84,10 @@ module _ {w h : ℕ} {p : Picture} (b : Brush) {s u : Tile} (S : Strip w h p s) 
       (subst (λ (m : ℕ). Run w (after p b) m s.right s.kind (s.bottom - 1)) low_span.0 (subst (λ (m : ℕ). Run w (after p b) u.left m s.kind (s.bottom - 1)) low_span.1 (subst (λ (m : ℕ). Run w (after p b) u.left u.right m (s.bottom - 1)) low_span.2 R)))))
 
 -- ---- the tiles that stay
+-- the same at a tile and an area that were read
+pub apart_as : {s t : Tile} {a d : Area} → s ≡ t → a ≡ d → Untouched s a → Untouched t d
+apart_as {s} {t} {a} {d} e f A = subst (λ (u : Tile). Untouched u d) e (subst (λ (z : Area). Untouched s z) f A)
+
 -- a strip holds its corner, and any square that is the corner of a tile with its start
 pub own_corner : {w h : ℕ} {q : Picture} {t : Tile} → Strip w h q t → Holds t t.left t.bottom
 own_corner S = omega (arith, S.box)
@@ -124,23 +129,23 @@ module _ {w h : ℕ} {q : Picture} {us vs : List ℕ} {m : ℕ} {s : Tile} (P : 
 
 -- one tile more of the table: left out, or put behind the others
 module _ {ws us : List ℕ} {b : Brush} {i m : ℕ} (K : Kept ws b us i m) where
-  pub kept_skip : (Untouched (tile_of ws i) b → ⊥) → b.y1 ≤ (tile_of ws i).bottom → Kept ws b us (i + 1) m
+  pub kept_skip : (Untouched (tile_of ws i) b.area → ⊥) → b.area.y1 ≤ (tile_of ws i).bottom → Kept ws b us (i + 1) m
   kept_skip f g = record {
     few = omega (arith, K.few);
     part = K.part;
     from = λ j u. let r = K.from j u in (r.0, omega (arith, r.1), r.2);
-    apart = λ k u A. ⊎_elim (λ (v : k < i). K.apart k v A) (λ (v : i ≤ k). let e : k ≡ i = omega arith in absurd (f (subst (λ (n : ℕ). Untouched (tile_of ws n) b) e A))) (lt_or_ge k i);
-    low = λ k u o. ⊎_elim (λ (v : k < i). K.low k v o) (λ (v : i ≤ k). let e : k ≡ i = omega arith in absurd (no (subst (λ (n : ℕ). (tile_of ws n).bottom < b.y1) e o))) (lt_or_ge k i);
+    apart = λ k u A. ⊎_elim (λ (v : k < i). K.apart k v A) (λ (v : i ≤ k). let e : k ≡ i = omega arith in absurd (f (subst (λ (n : ℕ). Untouched (tile_of ws n) b.area) e A))) (lt_or_ge k i);
+    low = λ k u o. ⊎_elim (λ (v : k < i). K.low k v o) (λ (v : i ≤ k). let e : k ≡ i = omega arith in absurd (no (subst (λ (n : ℕ). (tile_of ws n).bottom < b.area.y1) e o))) (lt_or_ge k i);
   }
     where
-      no : (tile_of ws i).bottom < b.y1 → ⊥
+      no : (tile_of ws i).bottom < b.area.y1 → ⊥
       no u = omega arith
 
   module _ {vs : List ℕ} {s : Tile} (G : Shown ws) (c : i < count ws) (Q : PutTile us vs m s) (S : Strip (width ws) (height ws) (goal ws b) s) (E : SameStart s (tile_of ws i)) where
     later : (j : ℕ) → j < m → Precedes (tile_of us j) s
     later j u = let r = K.from j u in precedes_start r.2 E (G.order r.0 i r.1 c)
 
-    pub kept_add : (Untouched (tile_of ws i) b → s ≡ tile_of ws i) → Kept ws b vs (i + 1) (m + 1)
+    pub kept_add : (Untouched (tile_of ws i) b.area → s ≡ tile_of ws i) → Kept ws b vs (i + 1) (m + 1)
     kept_add f = record {
       few = omega (arith, K.few);
       part = part_put K.part Q S later;
@@ -149,7 +154,7 @@ module _ {ws us : List ℕ} {b : Brush} {i m : ℕ} (K : Kept ws b us i m) where
           (λ (v : m ≤ j). let e : j ≡ m = omega arith in (i, omega arith, start (subst (λ (n : ℕ). tile_of vs n ≡ s) (sym e) Q.new) E)) (lt_or_ge j m);
       apart = λ k u A. ⊎_elim
           (λ (v : k < i). has_put K.part Q S later (K.apart k v A))
-          (λ (v : i ≤ k). let e : k ≡ i = omega arith in (m, omega arith, Q.new ∙ (f (subst (λ (n : ℕ). Untouched (tile_of ws n) b) e A) ∙ ap (tile_of ws) (sym e)))) (lt_or_ge k i);
+          (λ (v : i ≤ k). let e : k ≡ i = omega arith in (m, omega arith, Q.new ∙ (f (subst (λ (n : ℕ). Untouched (tile_of ws n) b.area) e A) ∙ ap (tile_of ws) (sym e)))) (lt_or_ge k i);
       low = λ k u o. ⊎_elim
           (λ (v : k < i). covered_put K.part Q S later _ _ (K.low k v o))
           (λ (v : i ≤ k). let e : k ≡ i = omega arith in (m, omega arith, holds_at Q.new (subst (λ (n : ℕ). Holds s (tile_of ws n).left (tile_of ws n).bottom) (sym e) (holds_start S E)))) (lt_or_ge k i);
@@ -168,31 +173,31 @@ kept_none ws b us = record {
 }
 
 -- ---- the tiles of the table that begin low are those before the end of the row above the area
-pub low_to : {ws : List ℕ} (b : Brush) {n j : ℕ} {s : Tile} → Shown ws → Past (width ws) b.y2 s → n ≡ count ws → PlaceOf ws n s j → LowTo ws b j
-low_to {ws} b {n} {j} {s} G e q P = record {
+pub low_to : {ws : List ℕ} (a : Area) {n j : ℕ} {s : Tile} → Shown ws → Past (width ws) a.y2 s → n ≡ count ws → PlaceOf ws n s j → LowTo ws a j
+low_to {ws} a {n} {j} {s} G e q P = record {
   most = omega (arith, P.most);
   low = λ i u. ⊎_elim (λ v. omega (arith, e.bottom)) (λ v. omega (arith, v.0, e.bottom)) (P.lower i u);
   high = λ i u v. ⊎_elim
-      (λ (o : b.y2 < (tile_of ws i).bottom). o)
-      (λ (o : (tile_of ws i).bottom ≤ b.y2). absurd (P.after (omega arith) (first_too ws (width ws) b.y2 (λ k l a c. G.order k l a (omega arith)) e P i (omega arith) u (before i v o))))
-      (lt_or_ge b.y2 (tile_of ws i).bottom);
+      (λ (o : a.y2 < (tile_of ws i).bottom). o)
+      (λ (o : (tile_of ws i).bottom ≤ a.y2). absurd (P.after (omega arith) (first_too ws (width ws) a.y2 (λ k l v c. G.order k l v (omega arith)) e P i (omega arith) u (before i v o))))
+      (lt_or_ge a.y2 (tile_of ws i).bottom);
 }
   where
-    before : (i : ℕ) → i < count ws → (tile_of ws i).bottom ≤ b.y2 → Precedes (tile_of ws i) s
+    before : (i : ℕ) → i < count ws → (tile_of ws i).bottom ≤ a.y2 → Precedes (tile_of ws i) s
     before i u o = ⊎_elim
-        (λ (v : (tile_of ws i).bottom < b.y2). inl (omega (arith, e.bottom)))
-        (λ (v : b.y2 ≤ (tile_of ws i).bottom). inr (omega (arith, e.bottom), omega (arith, e.left, (G.each i u).box)))
-        (lt_or_ge (tile_of ws i).bottom b.y2)
+        (λ (v : (tile_of ws i).bottom < a.y2). inl (omega (arith, e.bottom)))
+        (λ (v : a.y2 ≤ (tile_of ws i).bottom). inr (omega (arith, e.bottom), omega (arith, e.left, (G.each i u).box)))
+        (lt_or_ge (tile_of ws i).bottom a.y2)
 
 -- where a tile begins tells whether its number is one of these
-pub low_number : {ws : List ℕ} {b : Brush} {j : ℕ} → LowTo ws b j → (i : ℕ) → i < count ws → (tile_of ws i).bottom ≤ b.y2 → i < j
+pub low_number : {ws : List ℕ} {a : Area} {j : ℕ} → LowTo ws a j → (i : ℕ) → i < count ws → (tile_of ws i).bottom ≤ a.y2 → i < j
 low_number {j = j} L i u o = ⊎_elim (λ (v : i < j). v) (λ (v : j ≤ i). absurd (omega (arith, L.high i v u))) (lt_or_ge i j)
 
-pub high_number : {ws : List ℕ} {b : Brush} {j : ℕ} → LowTo ws b j → (i : ℕ) → b.y2 < (tile_of ws i).bottom → j ≤ i
+pub high_number : {ws : List ℕ} {a : Area} {j : ℕ} → LowTo ws a j → (i : ℕ) → a.y2 < (tile_of ws i).bottom → j ≤ i
 high_number {j = j} L i o = ⊎_elim (λ (v : i < j). absurd (omega (arith, L.low i v))) (λ (v : j ≤ i). v) (lt_or_ge i j)
 
 -- ---- every square below the area is covered
-pub kept_low : {ws us : List ℕ} {b : Brush} {j m : ℕ} → Given ws b → LowTo ws b j → Kept ws b us j m → (x y : ℕ) → x < width ws → y < height ws → y < b.y1 → CoveredBy us m x y
+pub kept_low : {ws us : List ℕ} {b : Brush} {j m : ℕ} → Given ws b → LowTo ws b.area j → Kept ws b us j m → (x y : ℕ) → x < width ws → y < height ws → y < b.area.y1 → CoveredBy us m x y
 kept_low {ws} {us} {b} {j} {m} I L K x y hx hy o =
     let G = I.shown in
     let d = G.cover x y hx hy in
@@ -203,7 +208,7 @@ kept_low {ws} {us} {b} {j} {m} I L K x y hx hy o =
     let B = K.part.each r.0 r.1 in
     (r.0, r.1, reach S H B r.2 o)
   where
-    reach : {w h : ℕ} {p : Picture} {s u : Tile} → Strip w h p s → Holds s x y → Strip w h (after p b) u → Holds u s.left s.bottom → y < b.y1 → Holds u x y
+    reach : {w h : ℕ} {p : Picture} {s u : Tile} → Strip w h p s → Holds s x y → Strip w h (after p b) u → Holds u s.left s.bottom → y < b.area.y1 → Holds u x y
     reach {w} {h} {p} {s} {u} S H B I o =
         let g = run_low b (omega arith) S.box.wide (S.rows s.bottom (omega arith) S.box.tall) in
         let e = one_run (B.rows s.bottom I.from_bottom I.to_top) g B.box.inside S.box.inside s.left I.from_left I.to_right (omega arith) S.box.wide in
@@ -213,7 +218,7 @@ kept_low {ws} {us} {b} {j} {m} I L K x y hx hy o =
         record { from_left = omega (arith, e.0); to_right = omega (arith, e.1); from_bottom = omega arith; to_top = up }
 
 -- the four ways to be untouched
-pub not_apart : {t : Tile} {b : Brush} → b.x1 ≤ t.right → t.left ≤ b.x2 → b.y1 ≤ t.top → t.bottom ≤ b.y2 → Untouched t b → ⊥
+pub not_apart : {t : Tile} {a : Area} → a.x1 ≤ t.right → t.left ≤ a.x2 → a.y1 ≤ t.top → t.bottom ≤ a.y2 → Untouched t a → ⊥
 not_apart b c d e (left_of u) = omega arith
 not_apart b c d e (right_of u) = omega arith
 not_apart b c d e (below_it u) = omega arith
@@ -223,14 +228,14 @@ not_apart b c d e (above_it u) = omega arith
 pub strip_in : {w h : ℕ} {p : Picture} {s s' : Tile} → Strip w h p s → s' ≡ s → (s'.left < w) × (s'.bottom < h)
 strip_in {w} {h} S e = subst (λ (z : Tile). (z.left < w) × (z.bottom < h)) (sym e) (omega (arith, S.box))
 
-pub keep_low : {w h : ℕ} {p : Picture} (b : Brush) {s s' u : Tile} → Strip w h p s → s' ≡ s → s'.bottom < b.y1 → Upward w h (after p b) s'.left s'.bottom u → Strip w h (after p b) u × SameStart u s
+pub keep_low : {w h : ℕ} {p : Picture} (b : Brush) {s s' u : Tile} → Strip w h p s → s' ≡ s → s'.bottom < b.area.y1 → Upward w h (after p b) s'.left s'.bottom u → Strip w h (after p b) u × SameStart u s
 keep_low {w} {h} {p} b {s} {s'} {u} S e o U =
-    let v = subst (λ (z : Tile). z.bottom < b.y1) e o in
+    let v = subst (λ (z : Tile). z.bottom < b.area.y1) e o in
     let X = subst (λ (z : Tile). Upward w h (after p b) z.left z.bottom u) e U in
     (low_strip b S v X, low_start b S v X)
 
-pub keep_apart : {w h : ℕ} {p : Picture} {b : Brush} {s s' : Tile} → Strip w h p s → s' ≡ s → Untouched s b → Strip w h (after p b) s'
-keep_apart {w} {h} {p} {b} S e A = strip_at_lem e (apart_strip (after_agrees p b) A S)
+pub keep_apart : {w h : ℕ} {p : Picture} (b : Brush) {s s' : Tile} → Strip w h p s → s' ≡ s → Untouched s b.area → Strip w h (after p b) s'
+keep_apart {w} {h} {p} b S e A = strip_at_lem e (apart_strip (after_agrees p b) A S)
 
 pub bottom_from : {s s' : Tile} {n : ℕ} → s' ≡ s → n ≤ s'.bottom → n ≤ s.bottom
 bottom_from {s} {s'} {n} e h = subst (λ (z : Tile). n ≤ z.bottom) e h

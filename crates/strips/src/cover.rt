@@ -1,17 +1,14 @@
 // The rebuild, by covering: of the tiles that begin in the row above the area or lower, those that the area does not touch and those that
 // begin below it are kept; then every square in and beside the area that no tile holds has its strip put in; and the tiles that begin
-// higher, which come after all these, are put behind. Where there are more strips than room, a count above the room says so.
+// higher, which come after all these, are put behind. Where there are more strips than room, there is no answer.
 ghost use Rattle.std.specs.Prelude.{◌≡◌, ◌+◌, ◌*◌, ◌-◌, ◌<◌, ◌≤◌, min, length};
-ghost use Rattle.plane.specs.Words.{count, width, height, Says};
-ghost use Rattle.brush.specs.Brush.{Given, Near, goal};
+ghost use Rattle.plane.specs.Words.{count, Says};
+ghost use Rattle.brush.specs.Brush.{Given, Near, wide, tall, goal_of};
 ghost use Rattle.strips.specs.Cover.{SpotOf, Untouched, LowTo, Kept, Working, RowUnder, AllUnder, Covers, CoversRow, CoversZone, Built};
 
-use brush::brush::Brush;
-use brush::runs::strip_at;
-use plane::find::seek;
-use plane::tile::Tile;
-use plane::words::{least, less, nth_tile, wide};
-use slots::slots::{append, find_low, insert, past, place_of, put_tile, under};
+use brush::painting::Painting;
+use plane::tile::{Area, Tile};
+use slots::slots::{Slots, append, insert, past, put_tile};
 
 // A number of tiles, and the right end and the top of one of them.
 #[derive(Clone, Copy)]
@@ -32,73 +29,57 @@ pub fn spot_of(n: usize, s: Tile) -> Spot
     }
 }
 
-// Does the tile not touch the brush's area, by a side or a corner?
-pub fn is_apart(t: Tile, b: Brush) -> bool
-    ensures { Says result (Untouched t b) }
+// Does the tile not touch the area, by a side or a corner?
+pub fn is_apart(t: Tile, a: Area) -> bool
+    ensures { Says result (Untouched t a) }
 {
-    if t.right < b.x1 {
-        return true;
-    }
-    if b.x2 < t.left {
-        return true;
-    }
-    if t.top < b.y1 {
-        return true;
-    }
-    if b.y2 < t.bottom {
-        return true;
-    }
-    false
+    t.right < a.x1 || a.x2 < t.left || t.top < a.y1 || a.y2 < t.bottom
 }
 
-// How many tiles of t begin in the row above the area or lower.
-pub fn low_tiles(t: &[u16], b: Brush) -> u16
-    requires { Given t.now b }
-    ensures { LowTo t.now b result }
+// How many tiles of the table begin in the row above the area or lower.
+pub fn low_tiles(p: &Painting<'_>) -> u16
+    ensures { LowTo p.now.words p.now.brush.area result }
 {
-    let s = past(t[1], b.y2);
-    place_of(t, wide(t[0]), s) as u16
+    let tiles = Slots {
+        words: p.table().words(),
+        count: usize::from(p.count()),
+    };
+    tiles.place_of(past(p.width(), p.area().y2)) as u16
 }
 
-// Tile i of t, put behind the m tiles of the working slice if it stays or begins below the area.
-pub fn keep_one(t: &[u16], b: Brush, work: &mut [u16], m: usize, i: u16) -> usize
-    requires given { Given t.now b }
-    requires i_bound { (i < count t.now) × (length work.old ≡ length t.now) }
-    requires kept { Kept t.now b work.old i m }
-    ensures { Kept t.now b work.new (i + 1) result }
+// Tile i of the table, put behind the m tiles of the working slice if it stays or begins below the area.
+pub fn keep_one(p: &Painting<'_>, work: &mut [u16], m: usize, i: u16) -> usize
+    requires i_bound { (i < count p.now.words) × (length work.old ≡ length p.now.words) }
+    requires kept { Kept p.now.words p.now.brush work.old i m }
+    ensures { Kept p.now.words p.now.brush work.new (i + 1) result }
 {
-    let s = nth_tile(t, wide(i));
-    if is_apart(s, b) {
+    let s = p.tile(i);
+    if is_apart(s, p.area()) {
         put_tile(work, m, s);
         return m + 1;
     }
-    if s.bottom < b.y1 {
-        let u = strip_at(t, b, i, s.left, s.bottom);
-        put_tile(work, m, u);
+    if s.bottom < p.area().y1 {
+        put_tile(work, m, p.strip_at(i, s.left, s.bottom));
         return m + 1;
     }
     m
 }
 
-// Those of the first n tiles of t that stay or begin below the area, put into the working slice, and how many.
-pub fn keep(t: &[u16], b: Brush, work: &mut [u16], n: u16) -> usize
-    requires given { Given t.now b }
-    requires n_bound { (n ≤ count t.now) × (length work.old ≡ length t.now) }
-    ensures { Kept t.now b work.new n result }
+// Those of the first n tiles of the table that stay or begin below the area, put into the working slice, and how many.
+pub fn keep(p: &Painting<'_>, work: &mut [u16], n: u16) -> usize
+    requires n_bound { (n ≤ count p.now.words) × (length work.old ≡ length p.now.words) }
+    ensures { Kept p.now.words p.now.brush work.new n result }
 {
     let mut m = 0;
-    let mut i = 0;
-    while i < n {
-        m = keep_one(t, b, work, m, i);
-        i += 1;
+    for i in 0..n {
+        m = keep_one(p, work, m, i);
     }
     m
 }
 
 // Has (x,y) covered: finds its tile in the working slice, from a guess k at the tile under it, or puts its strip there.
 pub fn cover(
-    t: &[u16],
-    b: Brush,
+    p: &Painting<'_>,
     work: &mut [u16],
     n: usize,
     room: usize,
@@ -106,29 +87,31 @@ pub fn cover(
     y: u16,
     near: u16,
     k: usize,
-) -> Spot
-    requires given { Given t.now b }
-    requires near { Near t.now near x y }
-    requires working { Working (width t.now) (height t.now) (goal t.now b) work.old n room }
+) -> Option<Spot>
+    requires given { Given p.now.words p.now.brush }
+    requires near { Near p.now.words near x y }
+    requires working { Working (wide p.now) (tall p.now) (goal_of p.now) work.old n room }
     requires row_under { RowUnder work.old n x (x + 1) y }
-    ensures { Covers (width t.now) (height t.now) (goal t.now b) room work.old n x y work.new result }
+    ensures { Covers (wide p.now) (tall p.now) (goal_of p.now) room work.old n x y work.new result }
 {
-    let i = find_low(work, n, k, x, y);
-    if i < n {
-        return spot_of(n, nth_tile(work, i));
+    let tiles = Slots {
+        words: work,
+        count: n,
+    };
+    if let Some(i) = tiles.find_low(k, x, y) {
+        return Some(spot_of(n, tiles.nth(i)));
     }
-    let s = strip_at(t, b, near, x, y);
     if room <= n {
-        return spot_of(n + 1, s);
+        return None;
     }
+    let s = p.strip_at(near, x, y);
     insert(work, n, s);
-    spot_of(n + 1, s)
+    Some(spot_of(n + 1, s))
 }
 
 // Has the squares x .. e-1 of row y covered.
 pub fn cover_row(
-    t: &[u16],
-    b: Brush,
+    p: &Painting<'_>,
     work: &mut [u16],
     n: usize,
     room: usize,
@@ -136,77 +119,77 @@ pub fn cover_row(
     e: u16,
     y: u16,
     near: u16,
-) -> Spot
-    requires given { Given t.now b }
-    requires near_bound { (near < count t.now) × (e ≤ width t.now) × (y < height t.now) }
-    requires working { Working (width t.now) (height t.now) (goal t.now b) work.old n room }
+) -> Option<Spot>
+    requires near_bound { (near < count p.now.words) × (e ≤ wide p.now) × (y < tall p.now) }
+    requires working { Working (wide p.now) (tall p.now) (goal_of p.now) work.old n room }
     requires row_under { RowUnder work.old n x e y }
-    ensures { CoversRow (width t.now) (height t.now) (goal t.now b) room work.old n x e y work.new result }
+    ensures { CoversRow (wide p.now) (tall p.now) (goal_of p.now) room work.old n x e y work.new result }
 {
     let mut r = Spot {
         count: n,
         right: x,
-        top: t[2],
+        top: p.height(),
     };
     let mut i = near;
     let mut k = n;
+    // A while loop: the step is the end of the tile that covers the square, not one.
     while r.right < e {
-        i = seek(t, i, r.right, y);
-        k = under(work, r.count, k, r.right, y);
-        let u = cover(t, b, work, r.count, room, r.right, y, i, k);
-        r.count = u.count;
-        if room < r.count {
-            return r;
-        }
-        r.top = least(r.top, u.top);
-        r.right = u.right;
+        i = p.seek(i, r.right, y);
+        let tiles = Slots {
+            words: work,
+            count: r.count,
+        };
+        k = tiles.under(k, r.right, y);
+        let u = cover(p, work, r.count, room, r.right, y, i, k)?;
+        r = Spot {
+            top: r.top.min(u.top),
+            ..u
+        };
     }
-    r
+    Some(r)
 }
 
-// Has every square of the area and beside it covered, from the area's bottom to the row above it.
-pub fn cover_zone(t: &[u16], b: Brush, work: &mut [u16], n: usize, room: usize) -> usize
-    requires given { Given t.now b }
-    requires working { Working (width t.now) (height t.now) (goal t.now b) work.old n room }
-    requires all_under { AllUnder work.old n (width t.now) b.y1 }
-    ensures { CoversZone (width t.now) (height t.now) (goal t.now b) room work.old n (b.x1 - 1) (min (b.x2 + 1) (width t.now)) (min (b.y2 + 1) (height t.now)) work.new result }
+// Has every square of the area and beside it covered, from the area's bottom to the row above it, and how many tiles there are then.
+pub fn cover_zone(p: &Painting<'_>, work: &mut [u16], n: usize, room: usize) -> Option<usize>
+    requires working { Working (wide p.now) (tall p.now) (goal_of p.now) work.old n room }
+    requires all_under { AllUnder work.old n (wide p.now) p.now.brush.area.y1 }
+    ensures { CoversZone (wide p.now) (tall p.now) (goal_of p.now) room work.old n (p.now.brush.area.x1 - 1) (min (p.now.brush.area.x2 + 1) (wide p.now)) (min (p.now.brush.area.y2 + 1) (tall p.now)) work.new result }
 {
-    let x = less(b.x1, 1);
-    let e = least(b.x2 + 1, t[1]);
-    let f = least(b.y2 + 1, t[2]);
+    let a = p.area();
+    let x = a.x1.saturating_sub(1);
+    let e = p.width().min(a.x2 + 1);
+    let f = p.height().min(a.y2 + 1);
     let mut m = n;
-    let mut y = b.y1;
     let mut i = 0;
+    let mut y = a.y1;
+    // A while loop: the step is the top of the rows that are covered, not one.
     while y < f {
-        i = seek(t, i, x, y);
-        let s = cover_row(t, b, work, m, room, x, e, y, i);
+        i = p.seek(i, x, y);
+        let s = cover_row(p, work, m, room, x, e, y, i)?;
         m = s.count;
-        if room < m {
-            return m;
-        }
         y = s.top;
     }
-    m
+    Some(m)
 }
 
-// The tiles of the picture after, in the working slice, and how many; more than the room where they are too many.
-pub fn rebuild(t: &[u16], b: Brush, work: &mut [u16], room: usize) -> usize
-    requires given { Given t.now b }
-    requires work_len { (length work.old ≡ length t.now) × (4 + 9 * room ≤ length t.now) × (count t.now ≤ room) }
-    ensures { Built (width t.now) (height t.now) (goal t.now b) room work.new result }
+// The tiles of the picture after, in the working slice, and how many; none where they are more than the room.
+pub fn rebuild(p: &Painting<'_>, work: &mut [u16], room: usize) -> Option<usize>
+    requires work_len { (length work.old ≡ length p.now.words) × (4 + 9 * room ≤ length p.now.words) × (count p.now.words ≤ room) }
+    ensures { Built (wide p.now) (tall p.now) (goal_of p.now) room work.new result }
 {
-    let n = wide(t[0]);
-    let low = low_tiles(t, b);
-    let k = keep(t, b, work, low);
-    let m = cover_zone(t, b, work, k, room);
-    if room < m {
-        return m;
-    }
-    let j = wide(low);
+    let n = usize::from(p.count());
+    let low = low_tiles(p);
+    let k = keep(p, work, low);
+    let m = cover_zone(p, work, k, room)?;
+    let j = usize::from(low);
     let r = m + (n - j);
     if room < r {
-        return r;
+        return None;
     }
-    append(t, j, n, work, m);
-    r
+    let tiles = Slots {
+        words: p.table().words(),
+        count: n,
+    };
+    append(tiles, j, work, m);
+    Some(r)
 }

@@ -1,17 +1,22 @@
 -- A tile that stays, one that begins below the area, or one that is left out.
-use Rattle.strips.specs.Cover.{Untouched}
-use Rattle.brush.proofs.Pieces.{read_at}
-use Rattle.slots.proofs.Places.{said_no_lem, said_yes}
-use Rattle.strips.proofs.Stays.{bottom_from, keep_apart, keep_low, kept_add, kept_skip, same_start}
+use mathlib.Core.Path.{sym}
+use Rattle.strips.proofs.Stays.{apart_as, bottom_from, keep_apart, keep_low, kept_add, kept_skip, same_start}
 use Rattle.strips.proofs.cover.keep_one.Goals as goal
 
 pub returns-then-is_apart : goal.returns-then-is_apart
-returns-then-is_apart c = let G = c.requires.given.shown in let e = read_at c.args.t.now c.wide.ensures c.nth_tile-s.ensures in let k = c.requires.i_bound.0 in
-    kept_add c.requires.kept G k c.put_tile.ensures (keep_apart (G.each _ k) e (said_yes (λ u. Untouched u c.args.b) c.is_apart.ensures e c.if-is_apart.true)) (same_start e) (λ _. e)
+returns-then-is_apart c =
+    let e = c.tile-s.ensures.value in
+    let S = c.tile-s.ensures.given.shown.each _ c.requires.i_bound.0 in
+    kept_add c.requires.kept c.tile-s.ensures.given.shown c.requires.i_bound.0 c.put_tile.ensures (keep_apart _ S e (apart_as e c.area.ensures.value c.if-is_apart.ensures)) (same_start e) (λ _. e)
 
-pub returns-then-s-b : goal.returns-then-s-b
-returns-then-s-b c = let G = c.requires.given.shown in let e = read_at c.args.t.now c.wide.ensures c.nth_tile-s.ensures in let k = c.requires.i_bound.0 in let d = keep_low c.args.b (G.each _ k) e c.if-s-b.true c.strip_at-u.ensures in
-    kept_add c.requires.kept G k c.put_tile-then-s-b.ensures d.0 d.1 (λ A. absurd (said_no_lem (λ u. Untouched u c.args.b) c.is_apart.ensures e c.if-is_apart.false A))
+pub returns-then-s-area : goal.returns-then-s-area
+returns-then-s-area c =
+    let e = c.tile-s.ensures.value in
+    let S = c.tile-s.ensures.given.shown.each _ c.requires.i_bound.0 in
+    let d = keep_low c.args.p.now.brush S e (rw c.area-2.ensures.value at c.if-s-area.true) c.strip_at.ensures in
+    kept_add c.requires.kept c.tile-s.ensures.given.shown c.requires.i_bound.0 c.put_tile-then-s-area.ensures d.0 d.1 (λ A. absurd (c.if-is_apart.ensures (apart_as (sym e) (sym c.area.ensures.value) A)))
 
 pub returns : goal.returns
-returns c = let e = read_at c.args.t.now c.wide.ensures c.nth_tile-s.ensures in kept_skip c.requires.kept (said_no_lem (λ u. Untouched u c.args.b) c.is_apart.ensures e c.if-is_apart.false) (bottom_from e c.if-s-b.false)
+returns c =
+    let e = c.tile-s.ensures.value in
+    kept_skip c.requires.kept (λ A. c.if-is_apart.ensures (apart_as (sym e) (sym c.area.ensures.value) A)) (bottom_from e (rw c.area-2.ensures.value at c.if-s-area.false))

@@ -1,10 +1,10 @@
 -- The place past the end of the row above the area, by `low_to`.
-use native.Mathlib.Omega.{arith}
+use mathlib.Core.Path.{◌∙◌}
 use Rattle.strips.proofs.Stays.{low_to}
 use Rattle.strips.proofs.cover.low_tiles.Goals as goal
 
 pub place_of-requires : goal.place_of-requires
-place_of-requires c = record { n_in_bounds = omega (arith, c.wide.ensures, c.requires.shown.room); in_order_to = λ i j u v. c.requires.shown.order i j u (omega (arith, c.wide.ensures)) }
+place_of-requires c = rw (c.words.ensures.value, c.table.ensures, c.from.ensures, c.count.ensures.value) (record { in_order_to = c.count.ensures.given.shown.order })
 
 pub returns : goal.returns
-returns c = low_to c.args.b c.requires.shown c.past-s.ensures c.wide.ensures c.place_of.ensures
+returns c = low_to c.args.p.now.brush.area c.count.ensures.given.shown (rw (c.width.ensures.value, c.area.ensures.value) at c.past.ensures) (c.from.ensures ∙ c.count.ensures.value) (rw (c.words.ensures.value, c.table.ensures) at c.place_of.ensures)
