@@ -119,15 +119,19 @@ impl<'a> Listed<'a> {
         all
     }
 
-    // Does tile s have that side at the line, and does the side go past p?
+    // Does tile s have that side at the line, and does the side go past p? Words are looked at one by one, since reading the whole tile first is slower.
     pub fn touches(self, s: u16, side: Side, line: u16, p: u16) -> bool
         ensures { Says result (Touches self.entry.words.now s side line p) }
     {
         if self.count() <= s {
             return false;
         }
-        let b = self.tile(s);
-        b.side_line(side) == line && b.side_start(side) <= p && p < b.side_end(side)
+        match side {
+            Side::Left => self.word(s, 0) == line && self.word(s, 1) <= p && p < self.word(s, 3),
+            Side::Bottom => self.word(s, 1) == line && self.word(s, 0) <= p && p < self.word(s, 2),
+            Side::Right => self.word(s, 2) == line && self.word(s, 1) <= p && p < self.word(s, 3),
+            Side::Top => self.word(s, 3) == line && self.word(s, 0) <= p && p < self.word(s, 2),
+        }
     }
 
     // Is s a stitch to a tile that touches so, if that tile is inside the window?
