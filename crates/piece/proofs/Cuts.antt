@@ -6,10 +6,11 @@ use mathlib.Core.List.{List, [], ◌∷◌}
 use mathlib.Core.Path.{◌≡◌, refl, sym, ◌∙◌, ap}
 use mathlib.Core.Logic.{◌⊎◌, inl, inr, ⊎_elim}
 use lib.ListN.{length, get_or, replicate, length-replicate, get_or-replicate}
-use Rattle.plane.specs.declared.tile.Tile.{Tile}
+use Rattle.piece.specs.declared.run.Run.{Run}
+use Rattle.piece.specs.Runs.{RunAt}
 use Rattle.plane.specs.declared.tile.Area.{Area}
 use Rattle.plane.specs.Picture.{Picture, area, in_area}
-use Rattle.plane.specs.Words.{count, width, height, word, tile_of, picture_of}
+use Rattle.plane.specs.Words.{count, width, height, word, picture_of}
 use Rattle.plane.proofs.Basics.{lt_or_ge, is_false}
 use Rattle.plane.proofs.ToTable.{shown}
 use Rattle.edges.specs.Edge.{Small}
@@ -21,7 +22,7 @@ use Rattle.rules.proofs.Searches.{same_truth}
 use Rattle.rules.proofs.Window.{Within, within, area_of}
 use Rattle.plane.specs.Fill.{Filled}
 use Rattle.piece.specs.Cut.{Drawn, row_of, CutOut, Cuttable, RowCut, placed, placed_area, around}
-use Rattle.plane.proofs.Tiles.{tile_end, tile_shows}
+use Rattle.plane.proofs.Tiles.{tile_shows}
 use Rattle.piece.proofs.Drawings.{drawn_none, drawn_here, drawn_as, drawn_right, drawn_up, drawn_row}
 
 -- the part of a local picture that is cut out, and the window in the plane
@@ -85,14 +86,13 @@ module _ {ws : List ℕ} (P : Plane ws) {bx by x1 y x2 y2 : ℕ} (C : Cuttable (
       go x' z a b u v (inr s) = held x' z s b u (omega arith) ∙ sym (held x' y s b (omega arith) N.held.to_top)
 
 -- and fills its part of the row
-pub row_more : {ws : List ℕ} {bx by x1 y x2 y2 i j x r top n u v z : ℕ} {t : Tile} {m m₁ m₂ : List ℕ} → Plane ws → Cuttable (width ws) (height ws) bx by (area x1 y x2 y2)
-    → Names ws i x y → j ≡ i → t ≡ tile_of ws j → r ≡ min t.right x2 → n ≡ min top t.top → x1 ≤ x → x < x2 → length m ≡ 6724 → RowCut (picture_of ws) bx by (area x1 y x y2) top m m₁
-    → v ≡ placed by y → u ≡ placed bx x → z ≡ placed bx r → Filled t.kind (v * 82 + u) (v * 82 + z) m₁ m₂
-    → RowCut (picture_of ws) bx by (area x1 y r y2) n m m₂
-row_more {ws} {y = y} {x2 = x2} {i = i} {j = j} {x = x} {r = r} {top = top} {n = n} {t = t} P C N e f g k a l sized c ev eu ez q =
-    let w = tile_end N e f g l in
-    let o : n ≡ min top (word ws j 3) = k ∙ ap (λ (s : Tile). min top s.top) f in
-    rw o (row_next P C j (rw (sym e) at N) a (omega (arith, w.0)) (omega (arith, g, ap (λ (s : Tile). s.right) f)) w.1 sized c (rw (f, ev, eu, ez) at q))
+pub row_more : {ws : List ℕ} {bx by x1 y x2 y2 x top n u v z : ℕ} {r : Run} {m m₁ m₂ : List ℕ} → Plane ws → Cuttable (width ws) (height ws) bx by (area x1 y x2 y2)
+    → RunAt ws x y x2 r → n ≡ min top r.top → x1 ≤ x → length m ≡ 6724 → RowCut (picture_of ws) bx by (area x1 y x y2) top m m₁
+    → v ≡ placed by y → u ≡ placed bx x → z ≡ placed bx r.end → Filled r.kind (v * 82 + u) (v * 82 + z) m₁ m₂
+    → RowCut (picture_of ws) bx by (area x1 y r.end y2) n m m₂
+row_more {ws} {y = y} {x = x} {top = top} {n = n} {r = r} P C N k a sized c ev eu ez q =
+    let o : n ≡ min top (word ws r.tile 3) = k ∙ ap (λ z. min top z) N.top in
+    rw o (row_next P C r.tile N.names a (omega (arith, N.some)) (omega (arith, N.right)) N.most sized c (rw (N.kind, ev, eu, ez) at q))
 
 -- ---- all rows
 -- a row, and copies of it up to `top`

@@ -1,16 +1,16 @@
 -- How areas drawn into a local picture add up: one beside or above another, a stretch of a row, and copies of a row.
-use Prim.Native.Nat.{ℕ, ◌+◌, ◌*◌, ◌<◌, ◌≤◌}
+use Prim.Native.Nat.{ℕ, ◌+◌, ◌-◌, ◌*◌, ◌<◌, ◌≤◌}
 use mathlib.Core.Bool.{Bool, true, false, cond}
 use mathlib.Core.List.{List}
 use mathlib.Core.Path.{◌≡◌, refl, sym, ◌∙◌, ap}
 use mathlib.Core.Logic.{◌⊎◌, inl, inr, ⊎_elim}
 use native.Mathlib.Omega.{arith}
-use lib.ListN.{length, get_or, set}
+use lib.ListN.{length, get_or}
+use Rattle.std.specs.List.{CopiedTo, SameBelow, SameFrom}
 use Rattle.plane.specs.declared.tile.Area.{Area}
 use Rattle.plane.specs.Fill.{Filled}
 use Rattle.plane.specs.Picture.{Picture, area, in_area}
 use Rattle.plane.proofs.Basics.{lt_or_ge, tf, is_false}
-use Rattle.plane.proofs.Fills.{fill_start, fill_more}
 use Rattle.rules.proofs.Window.{Within, within, area_of}
 use Rattle.piece.specs.Cut.{Drawn, row_of}
 
@@ -83,16 +83,26 @@ drawn_row {t} {x1} {x2} {y} {m} {m₁} sized r h p = record { long = p.long; squ
         tf (sym (area_of (area x1 y x2 (y + 1)) u v (record { left_of = omega arith; right_of = omega arith; low = omega arith; high = omega arith })) ∙ e))
 
 -- ---- copies
--- one square more
-pub copy_more : {v to u1 u : ℕ} {m m₁ : List ℕ} → length m ≡ 6724 → v < to → to < 82 → u1 ≤ u → u < 82 → Drawn (row_of m v) (area u1 to u (to + 1)) m m₁
-    → Drawn (row_of m v) (area u1 to (u + 1) (to + 1)) m (set m₁ (to * 82 + u) (get_or m₁ (v * 82 + u) 0))
-copy_more {v} {to} {u1} {u} {m} {m₁} sized l h a b p =
-    let e : to * 82 + u + 1 ≡ to * 82 + (u + 1) = omega arith in
-    let k : get_or m₁ (v * 82 + u) 0 ≡ get_or m (v * 82 + u) 0 = drawn_else p u v b (omega arith) (λ i. omega (arith, i.low)) in
-    let f : Filled (get_or m₁ (v * 82 + u) 0) (to * 82 + u) (to * 82 + u + 1) m₁ (set m₁ (to * 82 + u) (get_or m₁ (v * 82 + u) 0)) = fill_more (omega (arith, p.long)) (omega arith) fill_start in
-    drawn_right a (omega arith) p
-    (drawn_as (λ x y i. let z : x ≡ u = omega (arith, i.left_of, i.right_of) in k ∙ sym (ap (λ n. get_or m (v * 82 + n) 0) z))
-    (drawn_row (p.long ∙ sized) (omega arith) h (rw e at f)))
+-- one row
+pub drawn_copy : (v to u1 u2 : ℕ) {m m₁ : List ℕ} → u1 ≤ u2 → u2 ≤ 82 → length m₁ ≡ length m
+    → CopiedTo m m₁ (v * 82 + u1) (to * 82 + u1) (v * 82 + u2 - (v * 82 + u1)) × SameBelow m m₁ (to * 82 + u1) × SameFrom m m₁ (to * 82 + u1 + (v * 82 + u2 - (v * 82 + u1)))
+    → Drawn (row_of m v) (area u1 to u2 (to + 1)) m m₁
+drawn_copy v to u1 u2 {m} {m₁} l h long c = record { long = long; square = λ x y a b. at x y a b (in_area (area u1 to u2 (to + 1)) x y) refl }
+  where
+    at : (x y : ℕ) → x < 82 → y < 82 → (s : Bool) → in_area (area u1 to u2 (to + 1)) x y ≡ s → get_or m₁ (y * 82 + x) 0 ≡ cond s (get_or m (v * 82 + x) 0) (get_or m (y * 82 + x) 0)
+    at x y a b true e =
+        let i = within (area u1 to u2 (to + 1)) x y e in
+        let w : y ≡ to = omega (arith, i.low, i.high) in
+        let k : v * 82 + u1 + (y * 82 + x - (to * 82 + u1)) ≡ v * 82 + x = omega (arith, i.left_of) in
+        c.0 (y * 82 + x) 0 (omega (arith, i.left_of)) (omega (arith, i.right_of)) ∙ ap (λ n. get_or m n 0) k
+    at x y a b false e = ⊎_elim
+        (λ (s : y * 82 + x < to * 82 + u1). c.1 (y * 82 + x) 0 s)
+        (λ (s : to * 82 + u1 ≤ y * 82 + x). c.2 (y * 82 + x) 0 (⊎_elim (λ (z : y * 82 + x < to * 82 + u1 + (v * 82 + u2 - (v * 82 + u1))).
+        let w : y ≡ to = omega arith in
+        tf (sym (area_of (area u1 to u2 (to + 1)) x y (record { left_of = omega arith; right_of = omega arith; low = omega arith; high = omega arith })) ∙ e))
+        (λ (z : to * 82 + u1 + (v * 82 + u2 - (v * 82 + u1)) ≤ y * 82 + x). z)
+        (lt_or_ge (y * 82 + x) (to * 82 + u1 + (v * 82 + u2 - (v * 82 + u1))))))
+        (lt_or_ge (y * 82 + x) (to * 82 + u1))
 
 -- one row more
 pub copies_more : {v y u1 u2 : ℕ} {m m₁ m₂ : List ℕ} → v < y → y < 82 → u2 ≤ 82 → Drawn (row_of m v) (area u1 (v + 1) u2 y) m m₁ → Drawn (row_of m₁ v) (area u1 y u2 (y + 1)) m₁ m₂

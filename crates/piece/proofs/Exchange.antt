@@ -18,7 +18,7 @@ use Rattle.rules.specs.Sets.{member}
 use Rattle.rules.specs.Words.{rule_at, rules_of}
 use Rattle.rules.specs.Forbid.{edge, turns, reached, Way, right, left, up, down, ways_by, ways, forbids}
 use Rattle.rules.proofs.Searches.{some_at, some_has, or_left, or_right, or_cases, same_truth, some_of_cons, some_of_nil, some_or, some_same, some_suc, some_of_append}
-use Rattle.edges.specs.declared.edge.Turn.{Turn}
+use Rattle.edges.specs.declared.turn.Turn.{Turn}
 use Rattle.edges.specs.Edge.{Steps, around, barred, one, deep, past, edge_at, turns_at, hit, goes, goes_hit, flat, turn}
 use Rattle.edges.specs.Near.{Ruled, hits, swept, sweeps}
 

@@ -15,7 +15,7 @@ use Rattle.rules.specs.Forbid.{forbids, forbidden}
 use Rattle.rules.proofs.Searches.{same_truth}
 use Rattle.rules.proofs.Vetted.{sound_apart, sound_deep, sound_side, halo_reaches, halo_small}
 use Rattle.rules.proofs.Window.{within, area_of}
-use Rattle.piece.specs.Cut.{CutOut}
+use Rattle.piece.specs.Cut.{CutOut, placed}
 use Rattle.edges.specs.Edge.{Marked, flat}
 use Rattle.edges.specs.Near.{Ruled, sweeps}
 use Rattle.piece.specs.Remark.{near_block, full_mark, remarked, low_end, high_end, near_area, BlockIn, Checkable}
@@ -50,6 +50,11 @@ near_in k i = record { some_x = omega (arith, i.column); some_y = omega (arith, 
 
 pub near_small : (w k b : ℕ) → k ≤ 16 → high_end w k b ≤ low_end k b + 48
 near_small w k b l = omega arith
+
+-- where it begins in the local picture, and how long it is, in one direction
+pub near_placed : (w k b : ℕ) {x0 x1 x2 n : ℕ} → k ≤ 16 → 16 * b < w → x1 ≡ low_end k b → x2 ≡ high_end w k b → x0 ≡ placed b x1 → n ≡ x2 - x1
+    → (x0 + 16 * b ≡ low_end k b + 33) × (n ≡ high_end w k b - low_end k b) × (n ≤ 48) × (x0 + n ≤ 82)
+near_placed w k b l g e f p q = (omega arith, omega arith, omega arith, omega arith)
 
 -- its squares are those of the window within k of the block
 pub near_same : (w h k bx by x y : ℕ) → x < w → y < h → in_area (near_area w h k bx by) x y ≡ near_block k bx by x y

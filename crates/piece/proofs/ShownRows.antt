@@ -6,18 +6,26 @@ use mathlib.Core.Bool.{Bool, true, false, cond}
 use mathlib.Core.List.{List}
 use mathlib.Core.Logic.{◌⊎◌, inl, inr}
 use mathlib.Core.Path.{◌≡◌, refl, sym, ◌∙◌, ap}
-use lib.ListN.{get_or}
+use lib.ListN.{length, get_or}
+use lib.Dec.{eqb}
+use borrow.Author.Tests.{eqb-true}
+use Rattle.std.proofs.Common.{drop, slice_range, length-drop}
+use Rattle.std.specs.List.{list_all}
+use Rattle.std.proofs.lemmas.List.{get_or-drop, get_or-take, length-take}
+use Rattle.std.proofs.lemmas.List.Elements.{All-get_or}
+use Rattle.std.proofs.lemmas.List.Sums.{AllPass-from_list_all}
 use lib.Pow.{pow_pos, pow_mono, shr_lt}
-use Rattle.plane.specs.declared.tile.Tile.{Tile}
+use Rattle.piece.specs.declared.run.Run.{Run}
+use Rattle.piece.specs.Runs.{RunAt}
 use Rattle.plane.specs.declared.tile.Area.{Area}
 use Rattle.plane.specs.Picture.{Picture, area, in_area, bit_of, stamped}
 use Rattle.plane.specs.Plane.{Plane, Names}
-use Rattle.plane.specs.Words.{kinds, word, tile_of, picture_of}
+use Rattle.plane.specs.Words.{kinds, word, picture_of}
 use Rattle.plane.proofs.Basics.{lt_or_ge}
 use Rattle.rules.proofs.Window.{within}
 use Rattle.piece.specs.Shown.{Readable, RowShown, SameWords, ShowsRows, with_run}
 use Rattle.piece.proofs.Bits.{bit_half}
-use Rattle.plane.proofs.Tiles.{tile_end, tile_shows}
+use Rattle.plane.proofs.Tiles.{tile_shows}
 
 -- ---- a run of ones above a word of d bits, up to bit e
 ones_bit : (e i : ℕ) → i < e → bit_of (2 ^ e - 1) i ≡ 1
@@ -98,25 +106,22 @@ module _ {ws : List ℕ} (P : Plane ws) (two : kinds ws ≡ 2) {x1 y : ℕ} (j :
       go x' z a b c d (inl u) = run_below (word ws j 4) (x - x1) (r - x1) v (x' - x1) type_bit (omega arith) (omega arith) ∙ s.bits x' z a u c (omega arith)
       go x' z a b c d (inr u) = run_in (word ws j 4) (x - x1) (r - x1) v (x' - x1) type_bit s.small (omega arith) (omega arith) ∙ sym (tile_shows P j N x' z u (omega arith) c (omega arith))
 
--- the tile that the code has read adds its run
-pub shown_more : {ws : List ℕ} {x1 y x2 y2 i j x r top n v v' : ℕ} {t : Tile} → Readable ws (area x1 y x2 y2)
-    → Names ws i x y → j ≡ i → t ≡ tile_of ws j → r ≡ min t.right x2 → n ≡ min top t.top → x1 ≤ x → x < x2 → RowShown (picture_of ws) (area x1 y x y2) v top
-    → v' ≡ with_run t.kind v (x - x1) (r - x1)
-    → RowShown (picture_of ws) (area x1 y r y2) v' n
-shown_more {ws} {x1} {x2 = x2} {j = j} {x = x} {r = r} {top = top} {n = n} {v = v} {v' = v'} {t = t} R N e f g k a l s q =
-    let w = tile_end N e f g l in
-    let o : n ≡ min top (word ws j 3) = k ∙ ap (λ (s : Tile). min top s.top) f in
-    let h : v' ≡ with_run (word ws j 4) v (x - x1) (r - x1) = q ∙ ap (λ (s : Tile). with_run s.kind v (x - x1) (r - x1)) f in
-    rw (o, h) (shown_next R.plane R.two j (rw (sym e) at N) a (omega (arith, w.0)) (omega (arith, g, ap (λ (s : Tile). s.right) f)) s)
+-- the run that the code has read is added
+pub shown_more : {ws : List ℕ} {x1 y x2 y2 x top n v v' : ℕ} {r : Run} → Readable ws (area x1 y x2 y2) → RunAt ws x y x2 r → n ≡ min top r.top → x1 ≤ x → RowShown (picture_of ws) (area x1 y x y2) v top
+    → v' ≡ with_run r.kind v (x - x1) (r.end - x1)
+    → RowShown (picture_of ws) (area x1 y r.end y2) v' n
+shown_more {ws} {x1} {x = x} {top = top} {n = n} {v = v} {v' = v'} {r = r} R N k a s q =
+    let o : n ≡ min top (word ws r.tile 3) = k ∙ ap (λ z. min top z) N.top in
+    let h : v' ≡ with_run (word ws r.tile 4) v (x - x1) (r.end - x1) = q ∙ ap (λ z. with_run z v (x - x1) (r.end - x1)) N.kind in
+    rw (o, h) (shown_next R.plane R.two r.tile N.names a (omega (arith, N.some)) (omega (arith, N.right)) s)
 
 -- ---- all rows
--- one word more is the same
-pub same_more : (rows : List ℕ) {from i w : ℕ} → SameWords rows from i w → get_or rows i 0 ≡ w → SameWords rows from (i + 1) w
-same_more rows {from} {i} {w} s e j a b = go (lt_or_ge j i)
-  where
-    go : (j < i) ⊎ (i ≤ j) → get_or rows j 0 ≡ w
-    go (inl u) = s j a u
-    go (inr u) = let f : j ≡ i = omega arith in ap (λ z. get_or rows z 0) f ∙ e
+-- where each row of a part is the word, so is the row at each index
+pub same_words : (rows : List ℕ) (from to w : ℕ) → to ≤ length rows → list_all (λ x. eqb x w) (slice_range rows from to) ≡ true → SameWords rows from to w
+same_words rows from to w l e i a b =
+    let part : List ℕ = slice_range rows from to in
+    let here : get_or part (i - from) 0 ≡ get_or rows i 0 = get_or-take (to - from) (drop from rows) (i - from) 0 (omega arith) ∙ get_or-drop from rows (i - from) 0 ∙ ap (λ n. get_or rows n 0) (omega arith) in
+    sym here ∙ eqb-true (get_or part (i - from) 0) w (All-get_or (λ x. eqb x w ≡ true) part (i - from) 0 (omega (arith, length-take (to - from) (drop from rows), length-drop from rows)) (AllPass-from_list_all (λ x. eqb x w) part e))
 
 -- the rows up to `top` are shown, if they are the word of row y
 pub rows_more : {p : Picture} {x1 y1 x2 y y2 top v from to : ℕ} (rows : List ℕ) → y1 ≤ y → ShowsRows p (area x1 y1 x2 y) rows → RowShown p (area x1 y x2 y2) v top

@@ -2,6 +2,7 @@
 pub mod Cut
 pub mod Remark
 pub mod Rows
+pub mod Runs
 pub mod Shown
 pub mod Calm
 pub mod Worked

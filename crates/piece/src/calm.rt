@@ -5,62 +5,37 @@ ghost use Rattle.plane.specs.Words.{width, height, picture_of, Says};
 ghost use Rattle.piece.specs.Calm.{Calm, Covers, Interior};
 
 use crate::rows::near_area;
-use plane::find::seek;
+use plane::table::Table;
 use plane::tile::{Area, Tile};
-use plane::words::{nth_tile, wide};
+use waits::block::Block;
 
 // Does the tile hold every square of the area?
 fn covers(t: Tile, a: Area) -> bool
     ensures { Says result (Covers t a) }
 {
-    if a.x1 < t.left {
-        return false;
-    }
-    if t.right < a.x2 {
-        return false;
-    }
-    if a.y1 < t.bottom {
-        return false;
-    }
-    if t.top < a.y2 {
-        return false;
-    }
-    true
+    t.left <= a.x1 && a.x2 <= t.right && t.bottom <= a.y1 && a.y2 <= t.top
 }
 
-// Is every square within n of the block in the window?
-fn interior(w: u16, h: u16, bx: u16, by: u16, n: u16) -> bool
-    requires { (bx < 256) × (by < 256) × (n ≤ 32) }
-    ensures { Says result (Interior w h n bx by) }
+// Is every square within n of the block in a window w by h?
+fn interior(w: u16, h: u16, block: Block, n: u16) -> bool
+    requires { (block.x < 256) × (block.y < 256) × (n ≤ 32) }
+    ensures { Says result (Interior w h n block.x block.y) }
 {
-    if 16 * bx < n {
-        return false;
-    }
-    if w < 16 * bx + 16 + n {
-        return false;
-    }
-    if 16 * by < n {
-        return false;
-    }
-    if h < 16 * by + 16 + n {
-        return false;
-    }
-    true
+    n <= 16 * block.x
+        && 16 * block.x + 16 + n <= w
+        && n <= 16 * block.y
+        && 16 * block.y + 16 + n <= h
 }
 
 // Is everything within 2 k of the block of one type? The tile at the block's corner covers the window's part of it, and that is all of it or space.
-pub fn calm(t: &[u16], bx: u16, by: u16, k: u16) -> bool
-    requires { Plane t.now × (16 * bx < width t.now) × (16 * by < height t.now) × (k ≤ 16) }
-    ensures { result ≡ true → Calm (width t.now) (height t.now) (picture_of t.now) k bx by }
+// This, cut, piece_rows and shows_rows take a plane's words and no Table, since docs/ARCHITECTURE.md tells of them for any tested table.
+pub fn calm(t: &[u16], block: Block, k: u16) -> bool
+    requires { Plane t.now × (16 * block.x < width t.now) × (16 * block.y < height t.now) × (k ≤ 16) }
+    ensures { result ≡ true → Calm (width t.now) (height t.now) (picture_of t.now) k block.x block.y }
 {
-    let w = t[1];
-    let h = t[2];
-    let a = nth_tile(t, wide(seek(t, 0, 16 * bx, 16 * by)));
-    if !covers(a, near_area(w, h, bx, by, 2 * k)) {
-        return false;
-    }
-    if a.kind == 0 {
-        return true;
-    }
-    interior(w, h, bx, by, 2 * k)
+    let table = Table::of(t);
+    let (w, h) = (table.width(), table.height());
+    let corner = table.tile(table.seek(0, 16 * block.x, 16 * block.y));
+    covers(corner, near_area(w, h, block, 2 * k))
+        && (corner.kind == 0 || interior(w, h, block, 2 * k))
 }

@@ -4,4 +4,5 @@
 pub mod calm;
 pub mod cut;
 pub mod rows;
+mod run;
 pub mod shown;

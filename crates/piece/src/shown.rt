@@ -4,9 +4,9 @@ ghost use Rattle.plane.specs.Picture.{area};
 ghost use Rattle.plane.specs.Words.{count, picture_of};
 ghost use Rattle.piece.specs.Shown.{Readable, RowShown, SameWords, ShowsRows, with_run};
 
-use plane::find::seek;
+use crate::run::run_at;
+use plane::table::Table;
 use plane::tile::Area;
-use plane::words::{least, nth_tile, wide};
 
 // The bits of a row, and the row above the last one that has the same.
 #[derive(Clone, Copy)]
@@ -21,61 +21,58 @@ fn with_run(kind: u16, word: u64, from: u16, to: u16) -> u64
     ensures { result ≡ with_run kind word from to }
 {
     if kind == 1 {
-        return word + ((1u64 << to) - (1u64 << from));
+        word + ((1u64 << to) - (1u64 << from))
+    } else {
+        word
     }
-    word
 }
 
-// Reads row y of the area, tile by tile from tile i on. Up to the least of their tops the area's rows are all the same.
-fn row_shown(t: &[u16], i: u16, a: Area, y: u16) -> Shown
-    requires { Readable t.now (area a.x1 y a.x2 a.y2) × (i < count t.now) }
-    ensures { RowShown (picture_of t.now) (area a.x1 y a.x2 a.y2) result.word result.top }
+// Reads row y of the area, run by run from tile i on. Up to the least of their tops the area's rows are all the same.
+fn row_shown(table: &Table<'_>, i: u16, a: Area, y: u16) -> Shown
+    requires { Readable table.now (area a.x1 y a.x2 a.y2) × (i < count table.now) }
+    ensures { RowShown (picture_of table.now) (area a.x1 y a.x2 a.y2) result.word result.top }
 {
-    let start = a.x1;
-    let end = a.x2;
-    let mut word: u64 = 0;
+    let mut word = 0;
     let mut top = a.y2;
-    let mut x = start;
-    let mut j = i;
-    while x < end {
-        j = seek(t, j, x, y);
-        let s = nth_tile(t, wide(j));
-        let r = least(s.right, end);
-        word = with_run(s.kind, word, x - start, r - start);
-        top = least(top, s.top);
-        x = r;
+    let mut x = a.x1;
+    let mut tile = i;
+    // A while loop: the step is to the end of the tile found, not to the next column.
+    while x < a.x2 {
+        let run = run_at(table, tile, x, y, a.x2);
+        word = with_run(run.kind, word, x - a.x1, run.end - a.x1);
+        top = top.min(run.top);
+        tile = run.tile;
+        x = run.end;
     }
     Shown { word, top }
 }
 
 // Are the rows from `from` up to `to` all this word?
-fn same_up(rows: [u64; 48], from: usize, to: usize, word: u64) -> bool
+fn same_up(rows: &[u64; 48], from: usize, to: usize, word: u64) -> bool
     requires { (from ≤ to) × (to ≤ 48) }
-    ensures { result ≡ true → SameWords rows from to word }
+    ensures { result ≡ true → SameWords rows.now from to word }
 {
-    let mut i = from;
-    while i < to {
-        if rows[i] != word {
-            return false;
-        }
-        i += 1;
-    }
-    true
+    rows[from..to].iter().all(|row| *row == word)
 }
 
 // Does the table show these rows in the area? False says nothing.
-pub fn shows_rows(t: &[u16], a: Area, rows: [u64; 48]) -> bool
+pub fn shows_rows(t: &[u16], a: Area, rows: &[u64; 48]) -> bool
     requires { Readable t.now a }
-    ensures { result ≡ true → ShowsRows (picture_of t.now) a rows }
+    ensures { result ≡ true → ShowsRows (picture_of t.now) a rows.now }
 {
-    let start = a.y1;
-    let end = a.y2;
-    let mut i: u16 = 0;
-    let mut y = start;
-    while y < end {
-        i = seek(t, i, a.x1, y);
-        let s = row_shown(t, i, a, y);
-        if !same_up(rows, wide(y - start), wide(s.top - start), s.word) {
+    let table = Table::of(t);
+    let mut i = 0;
+    let mut y = a.y1;
+    // A while loop: the step is to the row above those that are the same.
+    while y < a.y2 {
+        i = table.seek(i, a.x1, y);
+        let s = row_shown(&table, i, a, y);
+        if !same_up(
+            rows,
+            usize::from(y - a.y1),
+            usize::from(s.top - a.y1),
+            s.word,
+        ) {
             return false;
         }
         y = s.top;

@@ -5,7 +5,7 @@ use Rattle.piece.specs.Cut.{RowCut}
 use Rattle.piece.proofs.cut.cut_row.Given as goal
 
 abbrev pub invariant-loop-x : goal.invariant-loop-x
-invariant-loop-x l = (l.j < count l.t) × (l.initial.x ≤ l.x) × (l.x ≤ l.end) × RowCut (picture_of l.t) l.bx l.by (area l.initial.x l.y l.x l.initial.top) l.top l.initial.kinds l.kinds
+invariant-loop-x l = (l.tile < count l.table) × (l.initial.x ≤ l.x) × (l.x ≤ l.a.x2) × RowCut (picture_of l.table) l.block.x l.block.y (area l.initial.x l.y l.x l.initial.top) l.top l.initial.kinds l.kinds
 
 abbrev pub decreases-loop-x : goal.decreases-loop-x
-decreases-loop-x l = l.end - l.x
+decreases-loop-x l = l.a.x2 - l.x

@@ -4,4 +4,4 @@ use native.Mathlib.Omega.{arith}
 use Rattle.piece.proofs.rows.row_bits.Goals as goal
 
 pub loop-j-preserved : goal.loop-j-preserved
-loop-j-preserved c = (omega arith, from_more c.loop-j-test.true c.loop-j.invariant.0 c.loop-j.invariant.1 c.bit_of.ensures.0 c.bit_of.ensures.1)
+loop-j-preserved c = from_more (omega arith) (omega arith) c.loop-j.invariant c.from.ensures (omega arith)

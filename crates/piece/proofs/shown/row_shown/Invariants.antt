@@ -5,7 +5,7 @@ use Prim.Native.Nat.{◌-◌, ◌≤◌, ◌<◌}
 use Rattle.piece.proofs.shown.row_shown.Given as goal
 
 abbrev pub invariant-loop-x : goal.invariant-loop-x
-invariant-loop-x l = (l.j < count l.t) × (l.start ≤ l.x) × (l.x ≤ l.end) × RowShown (picture_of l.t) (area l.start l.y l.x l.initial.top) l.word l.top
+invariant-loop-x l = (l.tile < count l.table) × (l.a.x1 ≤ l.x) × (l.x ≤ l.a.x2) × RowShown (picture_of l.table) (area l.a.x1 l.y l.x l.a.y2) l.word l.top
 
 abbrev pub decreases-loop-x : goal.decreases-loop-x
-decreases-loop-x l = l.end - l.x
+decreases-loop-x l = l.a.x2 - l.x

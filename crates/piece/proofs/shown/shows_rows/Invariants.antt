@@ -6,7 +6,7 @@ use Prim.Native.Nat.{◌-◌, ◌≤◌, ◌<◌}
 use Rattle.piece.proofs.shown.shows_rows.Given as goal
 
 abbrev pub invariant-loop-y : goal.invariant-loop-y
-invariant-loop-y l = (l.i < count l.t) × (l.start ≤ l.y) × (l.y ≤ l.end) × ShowsRows (picture_of l.t) (area l.a.x1 l.start l.a.x2 l.y) l.rows
+invariant-loop-y l = (l.i < count l.table) × (l.a.y1 ≤ l.y) × (l.y ≤ l.a.y2) × ShowsRows (picture_of l.table) (area l.a.x1 l.a.y1 l.a.x2 l.y) l.rows
 
 abbrev pub decreases-loop-y : goal.decreases-loop-y
-decreases-loop-y l = l.end - l.y
+decreases-loop-y l = l.a.y2 - l.y
