@@ -66,10 +66,7 @@ pub record PlaceIn (ws : List ℕ) (n : ℕ) (t : Tile) (i j : ℕ) : Type 0 whe
   pub lower : (k : ℕ) → k < i → Precedes (tile_of ws k) t
   pub after : j < n → Precedes (tile_of ws j) t → ⊥
 
--- at first nothing is known; then the middle tile comes before t, or it does not; and at last the two ends meet
-pub place_none : {ws : List ℕ} {n : ℕ} {t : Tile} → PlaceIn ws n t 0 n
-place_none = record { fits = omega arith; most = omega arith; lower = λ k u. absurd (omega arith); after = λ u. absurd (omega arith) }
-
+-- where the middle tile comes before t
 pub place_up : {ws : List ℕ} {n : ℕ} {t : Tile} {i j m : ℕ} → InOrderTo ws n → PlaceIn ws n t i j → m < j → Precedes (tile_of ws m) t → PlaceIn ws n t (m + 1) j
 place_up {ws} {n} {t} {i} {j} {m} O P u p = record {
   fits = omega arith;
@@ -77,12 +74,6 @@ place_up {ws} {n} {t} {i} {j} {m} O P u p = record {
   lower = λ k v. ⊎_elim (λ (o : k < m). precedes_trans (tile_of ws k) (tile_of ws m) t (O k m o (omega (arith, P.most))) p) (λ (o : m ≤ k). let e : k ≡ m = omega arith in subst (λ (z : ℕ). Precedes (tile_of ws z) t) (sym e) p) (lt_or_ge k m);
   after = P.after;
 }
-
-pub place_down : {ws : List ℕ} {n : ℕ} {t : Tile} {i j m : ℕ} → PlaceIn ws n t i j → i ≤ m → m < j → (Precedes (tile_of ws m) t → ⊥) → PlaceIn ws n t i m
-place_down P u v f = record { fits = u; most = omega (arith, P.most); lower = P.lower; after = λ o. f }
-
-pub place_done : {ws : List ℕ} {n : ℕ} {t : Tile} {i j : ℕ} → PlaceIn ws n t i j → j ≤ i → PlaceOf ws n t i
-place_done {ws} {n} {t} {i} {j} P u = let e : i ≡ j = omega (arith, P.fits) in record { most = omega (arith, P.most); lower = P.lower; after = λ v p. P.after (omega arith) (subst (λ (z : ℕ). Precedes (tile_of ws z) t) e p) }
 
 -- ---- tiles that come after (x,y), which s marks, do not hold it: so those before s are all that need be asked
 module _ (ws : List ℕ) {n p : ℕ} (x y : ℕ) {s : Tile} (O : InOrderTo ws n) (e : Past x y s) (P : PlaceOf ws n s p) where

@@ -4,17 +4,17 @@ use native.Mathlib.Omega.{arith}
 use mathlib.Core.Path.{◌≡◌, refl, sym, ◌∙◌, ap, ap₂, subst, fun_ext}
 use mathlib.Core.Logic.{◌⊎◌, inl, inr, ⊎_elim}
 use mathlib.Core.List.{List}
-use lib.ListN.{length, get_or, set, length-set}
+use Rattle.std.specs.Prelude.{Option, Some, None}
+use lib.ListN.{get_or}
 use Rattle.plane.specs.declared.tile.Tile.{Tile}
 use Rattle.plane.specs.Picture.{before, tile_words}
 use Rattle.plane.specs.Strips.{Box, Holds}
 use Rattle.plane.specs.Words.{tile_of, up_to, word}
 use Rattle.shared.specs.declared.shared.Links.{Links}
-use Rattle.slots.specs.Slots.{Sought}
-use Rattle.stitches.specs.Stitch.{LinksOf, PutLinks, SameTiles, StitchedTo, Tight, number_in, tiles_to, word_of}
+use Rattle.stitches.specs.Stitch.{Ends, Leads, StitchTo, LinksOf, PutLinks, SameTiles, StitchedTo, Tight, number_in, tiles_to, word_of}
 use Rattle.plane.proofs.Basics.{lt_or_ge}
 use Rattle.plane.proofs.Index.{length_up_to, nth, nth_up_to, number_first, number_none}
-use Rattle.slots.proofs.Stores.{store_hit, store_miss, tile_agree}
+use Rattle.slots.proofs.Stores.{tile_agree}
 
 -- ---- the number of a tile that holds a square
 module _ (ws : List ℕ) (n x y : ℕ) where
@@ -35,10 +35,6 @@ module _ {ws : List ℕ} {n w h x y : ℕ} (T : Tight ws n w h) where
   pub number_out : (w ≤ x) ⊎ (h ≤ y) → 65535 ≡ number_in ws n x y
   number_out o = number_miss ws n x y (λ j u J. ⊎_elim (λ v. omega (arith, T.box j u)) (λ v. omega (arith, T.box j u)) o)
 
--- none from i up, and none below i
-pub number_neither : {ws : List ℕ} {n i x y r s : ℕ} → Sought ws 0 i x y r → i ≤ r → Sought ws i n x y s → n ≤ s → 65535 ≡ number_in ws n x y
-number_neither {ws} {n} {i} {x} {y} B u O v = number_miss ws n x y (λ j o. ⊎_elim (λ (p : j < i). B.none u j (omega arith) p) (λ (p : i ≤ j). O.none v j p o) (lt_or_ge j i))
-
 -- ---- the square before
 pub before_some : (y : ℕ) (g : ℕ → ℕ) → 0 < y → g (y - 1) ≡ before y g
 unfolding before
@@ -50,53 +46,39 @@ unfolding before
 before_none zero g h = refl
 before_none (suc y) g h = absurd (omega arith)
 
--- ---- the four stores
-module _ (ws : List ℕ) (i : ℕ) (l : Links) (h : 4 + 9 * i + 9 ≤ length ws) where
-  abbrev a : ℕ
-  a = 4 + 9 * i
+-- the four numbers are the four words
+pub links_are : (ws : List ℕ) (n : ℕ) (t : Tile) (l : Links ℕ) → l.lb ≡ before t.bottom (λ z. number_in ws n t.left z) → l.bl ≡ before t.left (λ z. number_in ws n z t.bottom)
+    → l.tr ≡ number_in ws n t.right (t.top - 1) → l.rt ≡ number_in ws n (t.right - 1) t.top → LinksOf ws n t l
+unfolding tile_words
+links_are ws n t l a b c d = record { lb = a; bl = b; tr = c; rt = d }
 
-  abbrev l₁ : List ℕ
-  l₁ = set ws (a + 5) l.lb
+-- ---- the word of a stitch that is looked for, by where it leads
+module _ {ws : List ℕ} {n w h : ℕ} (T : Tight ws n w h) where
+  word_in : (x y : ℕ) {r : ℕ} → StitchTo ws n (Some (x, y)) r → r ≡ number_in ws n x y
+  word_in x y (inl H) = number_hit T H.0 H.1
+  word_in x y (inr M) = M.0 ∙ number_miss ws n x y M.1
 
-  abbrev l₂ : List ℕ
-  l₂ = set l₁ (a + 6) l.bl
+  word_at : (x y : ℕ) {s : ℕ × ℕ} {r : ℕ} → s.0 ≡ x → s.1 ≡ y → StitchTo ws n (Some s) r → r ≡ number_in ws n x y
+  word_at x y {s} p q S = word_in s.0 s.1 S ∙ ap₂ (number_in ws n) p q
 
-  abbrev l₃ : List ℕ
-  l₃ = set l₂ (a + 7) l.tr
+  pub to_before : (m x y : ℕ) (g : ℕ → ℕ) (e : Option (ℕ × ℕ)) {r : ℕ} → number_in ws n x y ≡ g (m - 1) → Leads 0 m x y e → StitchTo ws n e r → r ≡ before m g
+  to_before m x y g (Some s) q L S = word_at x y L.1 L.2 S ∙ (q ∙ before_some m g L.0)
+  to_before m x y g None q L S = S ∙ before_none m g L
 
-  abbrev l₄ : List ℕ
-  l₄ = set l₃ (a + 8) l.rt
+  pub to_after : {m k : ℕ} (x y : ℕ) → (k ≤ m → 65535 ≡ number_in ws n x y) → (e : Option (ℕ × ℕ)) {r : ℕ} → Leads m k x y e → StitchTo ws n e r → r ≡ number_in ws n x y
+  to_after x y f (Some s) L S = word_at x y L.1 L.2 S
+  to_after x y f None L S = S ∙ f L
 
-  n₁ : length l₁ ≡ length ws
-  n₁ = length-set ws (a + 5) l.lb
-
-  n₂ : length l₂ ≡ length ws
-  n₂ = length-set l₁ (a + 6) l.bl ∙ n₁
-
-  n₃ : length l₃ ≡ length ws
-  n₃ = length-set l₂ (a + 7) l.tr ∙ n₂
-
-  away : (m : ℕ) → (m < a + 5) ⊎ (a + 9 ≤ m) → get_or l₄ m 0 ≡ get_or ws m 0
-  away m o = store_miss l₃ (a + 8) m _ (far 8 (omega arith) (omega arith)) ∙ (store_miss l₂ (a + 7) m _ (far 7 (omega arith) (omega arith)) ∙ (store_miss l₁ (a + 6) m _ (far 6 (omega arith) (omega arith)) ∙ store_miss ws (a + 5) m _ (far 5 (omega arith) (omega arith))))
-    where
-      far : (k : ℕ) → 5 ≤ k → k < 9 → m ≡ a + k → ⊥
-      far k u v e = ⊎_elim (λ (o : m < a + 5). omega arith) (λ (o : a + 9 ≤ m). omega arith) o
-
-  pub put_links : PutLinks ws l₄ i l
-  put_links = record {
-    long = length-set l₃ (a + 8) l.rt ∙ n₃;
-    lb = store_miss l₃ (a + 8) (a + 5) _ (omega arith) ∙ (store_miss l₂ (a + 7) (a + 5) _ (omega arith) ∙ (store_miss l₁ (a + 6) (a + 5) _ (omega arith) ∙ store_hit ws (a + 5) (a + 5) _ refl (omega arith)));
-    bl = store_miss l₃ (a + 8) (a + 6) _ (omega arith) ∙ (store_miss l₂ (a + 7) (a + 6) _ (omega arith) ∙ store_hit l₁ (a + 6) (a + 6) _ refl (omega (arith, n₁)));
-    tr = store_miss l₃ (a + 8) (a + 7) _ (omega arith) ∙ store_hit l₂ (a + 7) (a + 7) _ refl (omega (arith, n₂));
-    rt = store_hit l₃ (a + 8) (a + 8) _ refl (omega (arith, n₃));
-    old = away;
-  }
+  -- the four
+  pub links_to : {t : Tile} {e : Links (Option (ℕ × ℕ))} {l : Links ℕ} → Ends w h t e → StitchTo ws n e.lb l.lb → StitchTo ws n e.bl l.bl → StitchTo ws n e.tr l.tr → StitchTo ws n e.rt l.rt → LinksOf ws n t l
+  links_to {t} {e} {l} E a b c d = links_are ws n t l
+      (to_before t.bottom t.left (t.bottom - 1) (λ z. number_in ws n t.left z) e.lb refl E.lb a)
+      (to_before t.left (t.left - 1) t.bottom (λ z. number_in ws n z t.bottom) e.bl refl E.bl b)
+      (to_after t.right (t.top - 1) (λ u. number_out T (inl u)) e.tr E.tr c)
+      (to_after (t.right - 1) t.top (λ u. number_out T (inr u)) e.rt E.rt d)
 
 -- ---- one tile more
-pub stitched_none : (ws : List ℕ) (n : ℕ) → StitchedTo ws n ws 0
-stitched_none ws n = record { long = refl; tile = λ j. refl; done = λ j k u. absurd (omega arith) }
-
-module _ {ws us vs : List ℕ} {n i : ℕ} {t : Tile} {l : Links} (S : StitchedTo ws n us i) (L : LinksOf us n t l) (e : t ≡ tile_of us i) (P : PutLinks us vs i l) where
+module _ {ws us vs : List ℕ} {n i : ℕ} {t : Tile} {l : Links ℕ} (S : StitchedTo ws n us i) (L : LinksOf us n t l) (e : t ≡ tile_of us i) (P : PutLinks us vs i l) where
   same_tiles : tiles_to us n ≡ tiles_to ws n
   same_tiles = ap (up_to n) (fun_ext S.tile)
 
@@ -129,45 +111,13 @@ module _ {ws us vs : List ℕ} {n i : ℕ} {t : Tile} {l : Links} (S : StitchedT
         (lt_or_ge j i);
   }
 
--- while stitches are set the tiles stay: they have a span, lie in the window, and are tight
-pub some_span : {ws us : List ℕ} {n w h i : ℕ} {t : Tile} → Tight ws n w h → i < n → StitchedTo ws n us i → t ≡ tile_of us i → (0 < t.right) × (0 < t.top)
-some_span {i = i} T u S e = subst (λ (z : Tile). (0 < z.right) × (0 < z.top)) (sym (e ∙ S.tile i)) (omega (arith, T.box i u))
-
-pub some_box : {ws : List ℕ} {n w h i : ℕ} {t : Tile} → Tight ws n w h → i < n → t ≡ tile_of ws i → Box w h t
-some_box {w = w} {h = h} {i = i} T u e = subst (λ (z : Tile). Box w h z) (sym e) (T.box i u)
-
 pub tight_still : {ws us : List ℕ} {n w h i : ℕ} → Tight ws n w h → StitchedTo ws n us i → Tight us n w h
 tight_still {ws} {us} {n} {w} {h} T S = record {
   box = λ j u. subst (λ (t : Tile). Box w h t) (sym (S.tile j)) (T.box j u);
   one = λ i j x y u v a b. T.one i j x y u v (subst (λ (t : Tile). Holds t x y) (S.tile i) a) (subst (λ (t : Tile). Holds t x y) (S.tile j) b);
 }
 
--- the four numbers are the four words
-pub links_are : (ws : List ℕ) (n : ℕ) (t : Tile) (l : Links) → l.lb ≡ before t.bottom (λ z. number_in ws n t.left z) → l.bl ≡ before t.left (λ z. number_in ws n z t.bottom)
-    → l.tr ≡ number_in ws n t.right (t.top - 1) → l.rt ≡ number_in ws n (t.right - 1) t.top → LinksOf ws n t l
-unfolding tile_words
-links_are ws n t l a b c d = record { lb = a; bl = b; tr = c; rt = d }
-
 -- ---- guesses: tiles stay, and no more is said
-pub same_none : {ws : List ℕ} → SameTiles ws ws
-same_none = record { long = refl; tile = λ j. refl }
-
-pub same_then : {ws us vs : List ℕ} → SameTiles ws us → SameTiles us vs → SameTiles ws vs
-same_then S R = record { long = R.long ∙ S.long; tile = λ j. R.tile j ∙ S.tile j }
-
-pub same_put : (ws : List ℕ) (i k v : ℕ) → 5 ≤ k → k < 9 → SameTiles ws (set ws (4 + 9 * i + k) v)
-same_put ws i k v u o = record {
-  long = length-set ws (4 + 9 * i + k) v;
-  tile = λ j. tile_agree (set ws (4 + 9 * i + k) v) ws j j (λ m p. store_miss ws (4 + 9 * i + k) (4 + 9 * j + m) v (omega arith));
-}
-
 -- stitches from guesses
 pub stitched_from : {ws vs : List ℕ} (n : ℕ) → SameTiles ws vs → StitchedTo ws n vs 0
 stitched_from n S = record { long = S.long; tile = S.tile; done = λ j k u. absurd (omega arith) }
-
-pub stitched_on : {ws us vs : List ℕ} {n i : ℕ} → SameTiles ws us → StitchedTo us n vs i → StitchedTo ws n vs i
-stitched_on {n = n} S R = record {
-  long = R.long ∙ S.long;
-  tile = λ j. R.tile j ∙ S.tile j;
-  done = λ j k u v. R.done j k u v ∙ ap₂ (λ (ts : List Tile) (t : Tile). get_or (tile_words ts t) k 0) (ap (up_to n) (fun_ext S.tile)) (S.tile j);
-}

@@ -1,335 +1,175 @@
 // The stitches of a table that has most tiles of another: those to tiles that both have are taken over from the other, and the rest is looked for.
-ghost use Rattle.std.specs.Prelude.{◌≡◌, ◌+◌, ◌-◌, ◌*◌, ◌<◌, ◌≤◌, length};
-ghost use Rattle.plane.specs.Picture.{before};
-ghost use Rattle.plane.specs.Plane.{Link, Plane};
+ghost use Rattle.std.specs.Prelude.{IfSome, ◌≡◌, ◌+◌, ◌-◌, ◌*◌, ◌<◌, ◌≤◌, length};
 ghost use Rattle.plane.specs.Strips.{Box};
-ghost use Rattle.plane.specs.Words.{Says, count, height, tile_of, width};
-ghost use Rattle.slots.specs.Slots.{Holder, Under};
-ghost use Rattle.stitches.specs.Stitch.{number_in, Tight, LinksOf, StitchedTo};
-ghost use Rattle.stitches.specs.Restitch.{AllKnown, KnownLinks, LinksIn};
+ghost use Rattle.plane.specs.Words.{count, height, tile_of, width};
+ghost use Rattle.stitches.specs.Stitch.{Tight, LinksOf, StitchedTo};
+ghost use Rattle.stitches.specs.Restitch.{KnownOr, LinksIn, SeekTo};
 ghost use Rattle.shared.specs.Shares.{Alike};
 
-use crate::stitch::{number_inside, put_links, stitch};
-use plane::find::seek;
-use plane::tile::{Tile, precedes};
-use plane::words::{least, less, nth_tile, wide, word_at};
-use shared::shared::{Links, Shared, moved_links, shared_tiles};
-use slots::slots::held_at;
+use crate::stitch::{NO_TILE, ends_of, put_links, stitch, stitch_to};
+use plane::table::Table;
+use plane::tile::Tile;
+use shared::shared::{Links, Shared};
+use slots::slots::Slots;
 
-// The four stitches of tile i of t.
-fn links_at(t: &[u16], i: usize) -> Links
-    requires plane { Plane t.now }
+// The four stitches of tile i of a table.
+fn links_at(t: &Table<'_>, i: u16) -> Links<u16>
     requires i_bound { i < count t.now }
     ensures { LinksIn t.now (tile_of t.now i) result }
 {
     Links {
-        lb: word_at(t, i, 5),
-        bl: word_at(t, i, 6),
-        tr: word_at(t, i, 7),
-        rt: word_at(t, i, 8),
+        lb: t.lb(i),
+        bl: t.bl(i),
+        tr: t.tr(i),
+        rt: t.rt(i),
     }
 }
 
-// The tile of t that holds the square under (x,y), looked for from tile i; 65535 where that is outside.
-fn seek_below(t: &[u16], i: u16, x: u16, y: u16) -> u16
-    requires plane { Plane t.now }
-    requires i_bound { (i < count t.now) × (x < width t.now) × (y < height t.now) }
-    ensures { Link t.now 0 y result x (y - 1) }
-{
-    if 0 < y {
-        return seek(t, i, x, y - 1);
-    }
-    65535
-}
-
-// The same for the square left of (x,y).
-fn seek_left(t: &[u16], i: u16, x: u16, y: u16) -> u16
-    requires plane { Plane t.now }
-    requires i_bound { (i < count t.now) × (x < width t.now) × (y < height t.now) }
-    ensures { Link t.now 0 x result (x - 1) y }
-{
-    if 0 < x {
-        return seek(t, i, x - 1, y);
-    }
-    65535
-}
-
-// The same for (x,y), which may lie right of the window.
-fn seek_right(t: &[u16], i: u16, x: u16, y: u16) -> u16
-    requires plane { Plane t.now }
-    requires i_bound { (i < count t.now) × (y < height t.now) }
-    ensures { Link t.now x (width t.now) result x y }
-{
-    if x < t[1] {
-        return seek(t, i, x, y);
-    }
-    65535
-}
-
-// The same for (x,y), which may lie above the window.
-fn seek_above(t: &[u16], i: u16, x: u16, y: u16) -> u16
-    requires plane { Plane t.now }
-    requires i_bound { (i < count t.now) × (x < width t.now) }
-    ensures { Link t.now y (height t.now) result x y }
-{
-    if y < t[2] {
-        return seek(t, i, x, y);
-    }
-    65535
-}
-
-// The tiles of t at the squares to which the stitches of tile a lead, looked for from tile i of t. Tile a need not be one of t.
-fn links_sought(t: &[u16], i: u16, a: Tile) -> Links
-    requires plane { Plane t.now }
+// The number of a table's tile that holds a square, looked for from its tile i; the word for no tile where there is no square.
+fn seek_to(t: &Table<'_>, i: u16, square: Option<(u16, u16)>) -> u16
     requires i_bound { i < count t.now }
-    requires fact { Box (width t.now) (height t.now) a }
+    requires in_window { IfSome square (λ s. (s.0 < width t.now) × (s.1 < height t.now)) }
+    ensures { SeekTo t.now square result }
+{
+    match square {
+        Some((x, y)) => t.seek(i, x, y),
+        None => NO_TILE,
+    }
+}
+
+// The tiles of a table at the squares to which the stitches of tile a lead, looked for from its tile i. Tile a need not be one of its tiles.
+fn links_sought(t: &Table<'_>, i: u16, a: Tile) -> Links<u16>
+    requires i_bound { i < count t.now }
+    requires in_window { Box (width t.now) (height t.now) a }
     ensures { LinksIn t.now a result }
 {
-    let k = seek(t, i, a.left, a.bottom);
-    Links {
-        lb: seek_below(t, k, a.left, a.bottom),
-        bl: seek_left(t, k, a.left, a.bottom),
-        tr: seek_right(t, k, a.right, a.top - 1),
-        rt: seek_above(t, k, a.right - 1, a.top),
-    }
+    let k = t.seek(i, a.left, a.bottom);
+    ends_of(a, t.width(), t.height()).map(|square| seek_to(t, k, square))
 }
 
-// The tiles of t at the squares to which the stitches of tile i of the working slice lead.
-fn links_before(t: &[u16], work: &[u16], n: usize, i: usize, s: Shared) -> Links
-    requires plane { Plane t.now }
-    requires n_in_bounds { (4 + 9 * n ≤ length work.now) × (n ≤ 65535) × (i < n) }
-    requires tight { Tight work.now n (width t.now) (height t.now) }
-    requires alike { Alike t.now work.now n s }
-    ensures { LinksIn t.now (tile_of work.now i) result }
+// The tiles of a table at the squares to which the stitches of tile i of the working slice lead.
+fn links_before(t: &Table<'_>, tiles: Slots<'_>, i: usize, s: Shared) -> Links<u16>
+    requires n_in_bounds { (i < tiles.count) × (tiles.count ≤ 65535) }
+    requires tight { Tight tiles.words.now tiles.count (width t.now) (height t.now) }
+    requires alike { Alike t.now tiles.words.now tiles.count s }
+    ensures { LinksIn t.now (tile_of tiles.entry.words.now i) result }
 {
     if i < s.low {
-        return links_at(t, i);
+        return links_at(t, i as u16);
     }
     if s.new <= i {
-        return links_at(t, s.old + (i - s.new));
+        return links_at(t, (s.old + (i - s.new)) as u16);
     }
-    let a = nth_tile(work, i);
-    links_sought(t, least(i as u16, less(t[0], 1)), a)
+    links_sought(t, (i as u16).min(t.count() - 1), tiles.nth(i))
 }
 
-// The number of the tile that holds (x,y): tile k if it does, or looked for from tile i.
-fn number_near(work: &[u16], n: usize, w: u16, h: u16, i: usize, k: u16, x: u16, y: u16) -> u16
-    requires n_in_bounds { (4 + 9 * n ≤ length work.now) × (n ≤ 65535) × (i ≤ n) }
-    requires tight { Tight work.now n w h }
-    ensures { result ≡ number_in work.now n x y }
+// The first tile from j on that does not come before a, or the number of tiles.
+fn place_from(tiles: Slots<'_>, j: usize, a: Tile) -> usize
+    requires { j ≤ tiles.count }
+    ensures { result ≤ tiles.entry.count }
 {
-    if held_at(work, n, wide(k), x, y) {
-        return k;
-    }
-    number_inside(work, n, w, h, i, x, y)
-}
-
-// The number of the tile that holds the square under (x,y): g, or where that is 65535 looked for, tile k first.
-fn known_below(
-    work: &[u16],
-    n: usize,
-    w: u16,
-    h: u16,
-    i: usize,
-    g: u16,
-    k: u16,
-    x: u16,
-    y: u16,
-) -> u16
-    requires n_in_bounds { (4 + 9 * n ≤ length work.now) × (n ≤ 65535) × (i ≤ n) }
-    requires tight { Tight work.now n w h }
-    requires under { g < 65535 → Under work.now n g x y }
-    ensures { result ≡ before y (λ z. number_in work.now n x z) }
-{
-    if g < 65535 {
-        return g;
-    }
-    if 0 < y {
-        return number_near(work, n, w, h, i, k, x, y - 1);
-    }
-    65535
-}
-
-// The same for the square left of (x,y).
-fn known_left(
-    work: &[u16],
-    n: usize,
-    w: u16,
-    h: u16,
-    i: usize,
-    g: u16,
-    k: u16,
-    x: u16,
-    y: u16,
-) -> u16
-    requires n_in_bounds { (4 + 9 * n ≤ length work.now) × (n ≤ 65535) × (i ≤ n) }
-    requires tight { Tight work.now n w h }
-    requires x_nonzero { g < 65535 → (0 < x) × Holder work.now n g (x - 1) y }
-    ensures { result ≡ before x (λ z. number_in work.now n z y) }
-{
-    if g < 65535 {
-        return g;
-    }
-    if 0 < x {
-        return number_near(work, n, w, h, i, k, x - 1, y);
-    }
-    65535
-}
-
-// The same for (x,y) itself.
-fn known_at(work: &[u16], n: usize, w: u16, h: u16, i: usize, g: u16, k: u16, x: u16, y: u16) -> u16
-    requires n_in_bounds { (4 + 9 * n ≤ length work.now) × (n ≤ 65535) × (i ≤ n) }
-    requires tight { Tight work.now n w h }
-    requires holder { g < 65535 → Holder work.now n g x y }
-    ensures { result ≡ number_in work.now n x y }
-{
-    if g < 65535 {
-        return g;
-    }
-    number_near(work, n, w, h, i, k, x, y)
-}
-
-// The stitches of a tile a: those known in g, and the others looked for, first at the guesses k and then from tile i.
-fn links_known(
-    work: &[u16],
-    n: usize,
-    w: u16,
-    h: u16,
-    i: usize,
-    g: Links,
-    k: Links,
-    a: Tile,
-) -> Links
-    requires n_in_bounds { (4 + 9 * n ≤ length work.now) × (n ≤ 65535) × (i ≤ n) }
-    requires tight { Tight work.now n w h }
-    requires right_nonzero { (0 < a.right) × (0 < a.top) }
-    requires known_links { KnownLinks work.now n a g }
-    ensures { LinksOf work.now n a result }
-{
-    Links {
-        lb: known_below(work, n, w, h, i, g.lb, k.lb, a.left, a.bottom),
-        bl: known_left(work, n, w, h, i, g.bl, k.bl, a.left, a.bottom),
-        tr: known_at(work, n, w, h, i, g.tr, k.tr, a.right, a.top - 1),
-        rt: known_at(work, n, w, h, i, g.rt, k.rt, a.right - 1, a.top),
-    }
-}
-
-// Is each of the four below 65535?
-fn all_known(g: Links) -> bool
-    ensures { Says result (AllKnown g) }
-{
-    if g.lb == 65535 {
-        return false;
-    }
-    if g.bl == 65535 {
-        return false;
-    }
-    if g.tr == 65535 {
-        return false;
-    }
-    if g.rt == 65535 {
-        return false;
-    }
-    true
-}
-
-// The first tile from j on, before tile e, that does not come before a; or e.
-fn place_from(work: &[u16], e: usize, j: usize, a: Tile) -> usize
-    requires { (4 + 9 * e ≤ length work.now) × (j ≤ e) }
-    ensures { result ≤ e }
-{
-    let mut k = j;
-    while k < e {
-        if precedes(nth_tile(work, k), a) {
-            k += 1;
-        } else {
+    for k in j..tiles.count {
+        if !tiles.nth(k).precedes(a) {
             return k;
         }
     }
-    e
+    tiles.count
 }
 
-// For each tile of t between the shared ones a guess at the tile that has its place now. Nothing is promised of them.
-fn guess_places(t: &[u16], work: &[u16], s: Shared, places: &mut [u16; 512])
-    requires { (4 + 9 * s.old ≤ length t.now) × (4 + 9 * s.new ≤ length work.now) × (s.low ≤ s.new) × (s.new ≤ 65535) }
+// For each old tile between the shared ones a guess at the tile that has its place now. Nothing is promised of them.
+fn guess_places(old: Slots<'_>, tiles: Slots<'_>, s: Shared, places: &mut [u16; 512])
+    requires { (s.old ≤ old.count) × (s.low ≤ tiles.count) × (tiles.count ≤ 65535) }
 {
     let mut j = s.low;
-    let mut g = s.low;
-    while g < s.old {
-        j = place_from(work, s.new, j, nth_tile(t, g));
+    for g in s.low..s.old {
+        j = place_from(tiles, j, old.nth(g));
         places[g % 512] = j as u16;
-        g += 1;
     }
 }
 
-// The guesses at the tiles that have the places of the four now.
-fn links_guessed(places: &[u16; 512], g: Links) -> Links {
-    let lb = wide(g.lb) % 512;
-    let bl = wide(g.bl) % 512;
-    let tr = wide(g.tr) % 512;
-    let rt = wide(g.rt) % 512;
-    Links {
-        lb: places[lb],
-        bl: places[bl],
-        tr: places[tr],
-        rt: places[rt],
-    }
-}
-
-// The stitches of tile i: g, where all four are known; the others are looked for, first at the places of the four old numbers k, and then from tile e.
-fn links_now(
-    work: &[u16],
-    n: usize,
-    w: u16,
-    h: u16,
+// The word of a stitch: the known one, or else as looked for.
+fn stitch_known(
+    known: Option<u16>,
+    tiles: Slots<'_>,
+    square: Option<(u16, u16)>,
+    k: u16,
     i: usize,
-    e: usize,
-    g: Links,
-    k: Links,
-    places: &[u16; 512],
-) -> Links
-    requires n_in_bounds { (4 + 9 * n ≤ length work.now) × (n ≤ 65535) × (i < n) × (e ≤ n) }
-    requires tight { Tight work.now n w h }
-    requires known_links { KnownLinks work.now n (tile_of work.now i) g }
-    ensures { LinksOf work.now n (tile_of work.now i) result }
+) -> u16
+    requires { (i ≤ tiles.count) × (tiles.count ≤ 65535) }
+    ensures { KnownOr tiles.entry.words.now tiles.entry.count square known result }
 {
-    if all_known(g) {
-        return g;
+    match known {
+        Some(g) => g,
+        None => stitch_to(tiles, square, k, i),
     }
-    let a = nth_tile(work, i);
-    links_known(work, n, w, h, e, g, links_guessed(places, k), a)
 }
 
-// The stitches of the first n tiles, of which those in s are shared with t. A stitch that is lost leads to a tile before tile s.new.
-fn stitch_shared(t: &[u16], work: &mut [u16], n: usize, s: Shared)
-    requires plane { Plane t.now }
+// The stitches of tile i: those of the table before, where they lead to shared tiles; the others are looked for, first at the places that the
+// tiles have to which they led, and then from the first of the last shared tiles.
+fn links_now(
+    t: &Table<'_>,
+    tiles: Slots<'_>,
+    i: usize,
+    s: Shared,
+    places: &[u16; 512],
+) -> Links<u16>
+    requires n_in_bounds { (i < tiles.count) × (tiles.count ≤ 65535) }
+    requires tight { Tight tiles.words.now tiles.count (width t.now) (height t.now) }
+    requires alike { Alike t.now tiles.words.now tiles.count s }
+    ensures { LinksOf tiles.entry.words.now tiles.entry.count (tile_of tiles.entry.words.now i) result }
+{
+    let before = links_before(t, tiles, i, s);
+    let known = before.moved(s);
+    if let Some(links) = known.all() {
+        return links;
+    }
+    let to = ends_of(tiles.nth(i), t.width(), t.height());
+    let k = before.map(|g| places[usize::from(g) % 512]);
+    Links {
+        lb: stitch_known(known.lb, tiles, to.lb, k.lb, s.new),
+        bl: stitch_known(known.bl, tiles, to.bl, k.bl, s.new),
+        tr: stitch_known(known.tr, tiles, to.tr, k.tr, s.new),
+        rt: stitch_known(known.rt, tiles, to.rt, k.rt, s.new),
+    }
+}
+
+// The stitches of the first n tiles, of which those in s are shared with a table.
+fn stitch_shared(t: &Table<'_>, work: &mut [u16], n: usize, s: Shared)
     requires n_in_bounds { (4 + 9 * n ≤ length work.old) × (n ≤ 65535) }
     requires tight { Tight work.old n (width t.now) (height t.now) }
     requires alike { Alike t.now work.old n s }
     ensures { StitchedTo work.old n work.new n }
 {
-    let mut places = [65535u16; 512];
-    guess_places(t, work, s, &mut places);
-    let mut i = 0;
-    while i < n {
-        let g = links_before(t, work, n, i, s);
-        let l = links_now(work, n, t[1], t[2], i, s.new, moved_links(g, s), g, &places);
-        put_links(work, i, l);
-        i += 1;
+    let mut places = [NO_TILE; 512];
+    let front = Slots {
+        words: work,
+        count: s.new,
+    };
+    guess_places(Slots::of(t), front, s, &mut places);
+    for i in 0..n {
+        let tiles = Slots {
+            words: work,
+            count: n,
+        };
+        let links = links_now(t, tiles, i, s, &places);
+        put_links(work, i, links);
     }
 }
 
-// The stitches of the first n tiles, taken over from t where few tiles differ.
-pub fn restitch(t: &[u16], work: &mut [u16], n: usize)
-    requires plane { Plane t.now }
+// The stitches of the first n tiles, taken over from a table where few tiles differ.
+pub fn restitch(t: &Table<'_>, work: &mut [u16], n: usize)
     requires n_in_bounds { (4 + 9 * n ≤ length work.old) × (n ≤ 65535) }
     requires tight { Tight work.old n (width t.now) (height t.now) }
     ensures { StitchedTo work.old n work.new n }
 {
-    let s = shared_tiles(t, work, n);
+    let tiles = Slots {
+        words: work,
+        count: n,
+    };
+    let s = Shared::of(t, tiles);
     if s.low + n / 8 < s.new {
-        stitch(work, n, t[1], t[2]);
-        return;
+        stitch(work, n, t.width(), t.height());
+    } else {
+        stitch_shared(t, work, n, s);
     }
-    stitch_shared(t, work, n, s);
 }

@@ -1,8 +1,5 @@
-use Prim.Native.Nat.{◌-◌, ◌≤◌}
+use Prim.Native.Nat.{◌≤◌}
 use Rattle.stitches.proofs.restitch.guess_places.Given as goal
 
 abbrev pub invariant-loop-g : goal.invariant-loop-g
-invariant-loop-g l = l.j ≤ l.s.new
-
-abbrev pub decreases-loop-g : goal.decreases-loop-g
-decreases-loop-g l = l.s.old - l.g
+invariant-loop-g l = l.j ≤ l.tiles.count

@@ -1,4 +1,4 @@
--- A shared tile has the stitches of its old number, by `links_like`; those of any other are sought.
+-- A shared tile has the stitches of its old number, by `links_like`.
 use native.Mathlib.Omega.{arith}
 use Rattle.stitches.proofs.Moves.{links_like}
 use Rattle.stitches.proofs.restitch.links_before.Goals as goal

@@ -1,6 +1,6 @@
--- The four numbers, by `links_are`.
-use Rattle.stitches.proofs.Stitches.{links_are}
+-- The four words, by where they lead: `links_to`.
+use Rattle.stitches.proofs.Stitches.{links_to}
 use Rattle.stitches.proofs.stitch.links_of.Goals as goal
 
 pub returns : goal.returns
-returns c = links_are _ _ _ _ c.number_below.ensures c.number_left.ensures c.number_high.ensures c.number_high-2.ensures
+returns c = links_to c.requires.tight (rw c.nth.ensures at c.ends_of-to.ensures) c.stitch_to.ensures c.stitch_to-2.ensures c.stitch_to-3.ensures c.stitch_to-4.ensures

@@ -1,6 +1,6 @@
 use Prim.Native.Nat.{◌-◌}
 use Rattle.stitches.specs.Stitch.{SameTiles}
-use Rattle.stitches.proofs.stitch.guess_under.Given as goal
+use Rattle.stitches.proofs.guess.guess_under.Given as goal
 
 abbrev pub invariant-loop-x : goal.invariant-loop-x
 invariant-loop-x l = SameTiles l.initial.work l.work

@@ -1,8 +1,0 @@
-use Prim.Native.Nat.{◌-◌, ◌≤◌}
-use Rattle.stitches.proofs.restitch.place_from.Given as goal
-
-abbrev pub invariant-loop-k : goal.invariant-loop-k
-invariant-loop-k l = l.k ≤ l.e
-
-abbrev pub decreases-loop-k : goal.decreases-loop-k
-decreases-loop-k l = l.e - l.k
