@@ -1,17 +1,30 @@
--- A word looked up among the command words: found at the first, or passed on to the others.
-use mathlib.Core.Path.{◌≡◌, sym, ◌∙◌}
-use mathlib.Core.Bool.{Bool, true, false}
-use mathlib.Core.List.{List, ◌∷◌}
-use Prim.Native.Nat.{ℕ}
+-- Two words that are not of one length are not the same.
+use mathlib.Core.Path.{◌≡◌, refl, ap}
+use mathlib.Core.Bool.{false, and-false}
+use mathlib.Core.List.{List, [], ◌∷◌}
+use Prim.Native.Nat.{ℕ, suc, ◌+◌, ◌<◌}
+use native.Mathlib.Omega.{arith}
+use native.Mathlib.Numerals.{add-one}
+use lib.Dec.{eqb}
+use lib.ListN.{length, get_or, drop, drop_of_length-le}
+use lib.Seq.{drop-cons}
 use Rattle.text.specs.Word.{sameb}
-use Rattle.commands.specs.Command.{keyword_in, keyword_of}
-use Rattle.commands.specs.declared.keyword.Keyword.{Keyword}
 
-module _ (w v : List ℕ) (k : Keyword) (t : List (List ℕ × Keyword)) (r : Bool) (left : keyword_of w ≡ keyword_in ((v, k) ∷ t) w) (is : r ≡ sameb w v) where
-  pub word_here : r ≡ true → k ≡ keyword_of w
-  unfolding keyword_in
-  word_here e = sym (left ∙ rw (sym is ∙ e))
+pub same_lengths : (a b : List ℕ) → (length a ≡ length b → ⊥) → sameb a b ≡ false
+unfolding sameb
+same_lengths [] [] n = absurd (n refl)
+same_lengths [] (d ∷ m) n = refl
+same_lengths (c ∷ l) [] n = refl
+same_lengths (c ∷ l) (d ∷ m) n = rw (same_lengths l m (λ e. n (ap suc e))) (and-false (eqb c d))
 
-  pub word_past : r ≡ false → keyword_of w ≡ keyword_in t w
-  unfolding keyword_in
-  word_past e = left ∙ rw (sym is ∙ e)
+-- a word of which every byte is known
+abbrev pub Spelt : List ℕ → ℕ → List ℕ → Type 0
+Spelt w i [] = length w ≡ i
+Spelt w i (c ∷ m) = (i < length w) × (get_or w i 0 ≡ c) × Spelt w (i + 1) m
+
+spelt_from : (w m : List ℕ) (i : ℕ) → Spelt w i m → drop i w ≡ m
+spelt_from w [] i h = drop_of_length-le w (omega (arith, h))
+spelt_from w (c ∷ m) i h = rw (drop-cons w i 0 h.0, h.1, ← add-one i) (ap (λ (z : List ℕ). c ∷ z) (spelt_from w m (i + 1) h.2))
+
+pub spelt : (w m : List ℕ) → Spelt w 0 m → w ≡ m
+spelt w m h = spelt_from w m 0 h

@@ -1,4 +1,4 @@
--- The laws of the session's commands, each file named after its subject.
+-- Laws of the commands.
 pub mod Keywords
 pub mod Reading
 pub mod Whole

@@ -1,60 +1,94 @@
 -- Reading a line's numbers, part by part: what holds after some of them, and how a turn, a refusal and the end go.
-use mathlib.Core.Path.{◌≡◌, refl, sym, ap, ◌∙◌}
-use mathlib.Core.Bool.{Bool, true, false, ◌&&◌, and-false}
-use mathlib.Core.List.{List, [], ◌∷◌, ◌++◌, append_assoc, append-nil}
-use Prim.Native.Nat.{ℕ, ◌+◌, ◌<◌, ◌≤◌}
+use mathlib.Core.Path.{◌≡◌, refl, sym, ap, subst, ◌∙◌}
+use mathlib.Core.Bool.{Bool, true, false, cond, ◌&&◌, and-false, and-true, and_assoc}
+use denote.Param.Members.{Mut}
+use denote.Ref.{Bor}
+use Rattle.std.specs.Fn.{CalledAt}
+use Rattle.std.specs.List.{slice_split, onto_first}
+use Rattle.std.specs.Slice.Iter.{split_rest, split_done, split_callee, split_steps}
+use Rattle.std.specs.Iterator.Adapters.{skip_source, skip_count, skip_steps}
+use Rattle.std.proofs.lemmas.Iterator.{YieldsList}
+use Rattle.std.proofs.lemmas.Iterator.Adapters.{YieldsList-from_skip}
+use Rattle.std.proofs.lemmas.Iterator.Splits.{YieldsList-from_slice_split}
+use Rattle.text.specs.Part.{blank, onto, parts}
+use mathlib.Core.List.{List, [], ◌∷◌, ◌++◌}
+use Prim.Native.Nat.{ℕ, zero, suc, ◌+◌, ◌<◌, ◌≤◌}
 use native.Mathlib.Numerals.{add-one}
 use native.Mathlib.Omega.{arith}
-use lib.ListN.{length, take, set, length-set}
-use lib.Seq.{take-suc-set}
+use lib.ListN.{length, get_or, take, drop}
+use lib.Seq.{take-suc, take_all, length-take-le}
 use borrow.Author.Tests.{ne_eqb}
+use Rattle.std.specs.Prelude.{Some, None}
 use Rattle.text.specs.Number.{number_of, is_number, value}
+use Rattle.text.proofs.Numbers.{number_is, number_not}
 use Rattle.commands.specs.Command.{all_numbers, values}
 use Rattle.commands.specs.Numbers.{Good, Bad}
-use Rattle.text.specs.declared.number.Number.TheVariants.{Is, Not}
-use Rattle.text.proofs.Numbers.{number_is, number_not}
 
--- of the parts ws, the first `count` are read into n, and ls are left
-pub record ReadTo (ws ls : List (List ℕ)) (n : List ℕ) (count : ℕ) : Type 0 where
-  pub most : count ≤ 8
-  pub room : length n ≡ 8
-  pub all : all_numbers ws ≡ all_numbers ls
-  pub are : values ws ≡ take count n ++ values ls
-  pub many : length ws ≡ count + length ls
+-- of the parts ws, the first k are read as the numbers n
+pub record ReadTo (ws : List (List ℕ)) (k : ℕ) (n : List ℕ) : Type 0 where
+  pub all : all_numbers (take k ws) ≡ true
+  pub are : values (take k ws) ≡ n
 
-module _ (ws ls : List (List ℕ)) (n : List ℕ) (count : ℕ) (inv : ReadTo ws ls n count) where
-  pub read_on : (w : List ℕ) (rs : List (List ℕ)) (v : ℕ) → ls ≡ w ∷ rs → Is v ≡ number_of w → count < 8 → ReadTo ws rs (set n count v) (count + 1)
-  unfolding all_numbers values
-  read_on w rs v split e less =
-      let is : (is_number w ≡ true) × (value w ≡ v) = number_is w v e in
-      let fit : count < length n = omega (arith, inv.room) in
-      let taken : take (count + 1) (set n count v) ≡ take count n ++ (v ∷ []) = rw (add-one count) (take-suc-set n count v fit) in
+all_snoc : (ws : List (List ℕ)) (w : List ℕ) → all_numbers (ws ++ (w ∷ [])) ≡ (all_numbers ws && is_number w)
+unfolding all_numbers
+all_snoc [] w = and-true (is_number w)
+all_snoc (u ∷ ws) w = rw (all_snoc ws w) (sym (and_assoc (is_number u) (all_numbers ws) (is_number w)))
+
+values_snoc : (ws : List (List ℕ)) (w : List ℕ) → values (ws ++ (w ∷ [])) ≡ values ws ++ (value w ∷ [])
+unfolding values
+values_snoc [] w = refl
+values_snoc (u ∷ ws) w = ap (λ (l : List ℕ). value u ∷ l) (values_snoc ws w)
+
+pub length_values : (ws : List (List ℕ)) → length (values ws) ≡ length ws
+unfolding values
+length_values [] = refl
+length_values (u ∷ ws) = ap suc (length_values ws)
+
+-- one part that is no number is enough
+one_not : (ws : List (List ℕ)) (k : ℕ) (d : List ℕ) → k < length ws → is_number (get_or ws k d) ≡ false → all_numbers ws ≡ false
+unfolding all_numbers
+one_not [] k d h e = absurd (omega arith)
+one_not (u ∷ ws) zero d h e = rw e refl
+one_not (u ∷ ws) (suc k) d h e = rw (one_not ws k d (omega arith) e) (and-false (is_number u))
+
+module _ (ws : List (List ℕ)) (k : ℕ) (n : List ℕ) (inv : ReadTo ws k n) where
+  pub read_done : length ws ≤ k → Good n ws
+  read_done h = record { all = ap all_numbers (sym (take_all k ws h)) ∙ inv.all; are = ap values (sym (take_all k ws h)) ∙ inv.are }
+
+module _ (ws : List (List ℕ)) (k : ℕ) (n : List ℕ) (inv : ReadTo ws k n) (h : k < length ws) (w : List ℕ) (is : w ≡ get_or ws k w) where
+  pub read_on : (v : ℕ) (m : List ℕ) → Some v ≡ number_of w → m ≡ n ++ (v ∷ []) → ReadTo ws (k + 1) m
+  read_on v m e q =
+      let one : (is_number w ≡ true) × (value w ≡ v) = number_is w v e in
+      let more : take (k + 1) ws ≡ take k ws ++ (w ∷ []) = rw (add-one k) (take-suc ws k w h ∙ ap (λ (u : List ℕ). take k ws ++ (u ∷ [])) (sym is)) in
       record {
-        most = omega arith;
-        room = simp length-set inv.room;
-        all = inv.all ∙ (ap all_numbers split ∙ ap (λ (b : Bool). b && all_numbers rs) is.0);
-        are = inv.are ∙ (ap (λ (l : List (List ℕ)). take count n ++ values l) split ∙ (ap (λ (m : ℕ). take count n ++ (m ∷ values rs)) is.1 ∙ (sym (append_assoc (take count n) (v ∷ []) (values rs)) ∙ ap (λ (l : List ℕ). l ++ values rs) (sym taken))));
-        many = omega (arith, inv.many, ap length split);
+        all = ap all_numbers more ∙ (all_snoc (take k ws) w ∙ rw (inv.all) one.0);
+        are = ap values more ∙ (values_snoc (take k ws) w ∙ (rw (inv.are, one.1) refl ∙ sym q));
       }
 
-  pub read_not : (w : List ℕ) (rs : List (List ℕ)) → ls ≡ w ∷ rs → Not ≡ number_of w → Bad ws
-  unfolding all_numbers
-  read_not w rs split e m h =
-      let no : all_numbers ws ≡ false = inv.all ∙ (ap all_numbers split ∙ ap (λ (b : Bool). b && all_numbers rs) (number_not w e)) in
-      rw no
+  pub read_not : None ≡ number_of w → Bad ws
+  read_not e m few = rw (one_not ws k w h (ap is_number (sym is) ∙ number_not w e)) refl
 
-  pub read_many : (w : List ℕ) (rs : List (List ℕ)) → ls ≡ w ∷ rs → 8 ≤ count → Bad ws
-  read_many w rs split more m h =
-      let far : length ws ≡ m → ⊥ = λ e. omega (arith, inv.many, ap length split) in
-      rw (ne_eqb (length ws) m far) (and-false (all_numbers ws))
+  pub read_many : 8 ≤ length n → Bad ws
+  read_many more m few =
+      let long : length n ≡ k = sym (ap length inv.are) ∙ (length_values (take k ws) ∙ length-take-le k ws (omega arith)) in
+      rw (ne_eqb (length ws) m (λ e. omega arith)) (and-false (all_numbers ws))
 
-  pub read_done : ls ≡ [] → Good (record { good = true; count = count; n = n }) ws
-  unfolding all_numbers values
-  read_done none = record {
-    all = inv.all ∙ ap all_numbers none;
-    many = omega (arith, inv.many, ap length none);
-    are = inv.are ∙ (ap (λ (l : List (List ℕ)). take count n ++ values l) none ∙ append-nil (take count n));
-  }
+-- the library cuts a line at the blanks as the definition does
+parts_split : (l : List ℕ) → slice_split blank l ≡ parts l
+unfolding parts onto
+parts_split [] = refl
+parts_split (c ∷ l) = rw (parts_split l) (cut (blank c) c (parts l))
+  where
+    cut : (b : Bool) (d : ℕ) (ps : List (List ℕ)) → cond b ([] ∷ ps) (onto_first d ps) ≡ cond b ([] ∷ ps) (onto d ps)
+    cut true d ps = refl
+    cut false d [] = refl
+    cut false d (w ∷ ws) = refl
 
-pub read_none : (ws : List (List ℕ)) (n : List ℕ) → length n ≡ 8 → ReadTo ws ws n 0
-read_none ws n e = record { most = omega arith; room = e; all = refl; are = refl; many = omega arith }
+-- an iterator over the parts of a line gives those after the first
+pub parts_given : {F : Type 0} (g : Mut F (Bor ℕ × Unit {0}) Bool) {f : F} {s : _} (text : List ℕ) → split_rest (skip_source s) ≡ text → split_done (skip_source s) ≡ false → split_callee (skip_source s) ≡ f → skip_count s ≡ 1
+    → ((x : ℕ) (b : Bool) (q : F) → CalledAt g f x b q → (q ≡ f) × (b ≡ blank x)) → YieldsList (skip_steps (split_steps g)) (λ x. x.now) s (drop 1 (parts text))
+parts_given g {s = s} text rest done callee count calls = subst (λ (ps : List (List ℕ)). YieldsList (skip_steps (split_steps g)) (λ x. x.now) s (drop 1 ps)) (parts_split text) (YieldsList-from_skip 1 (YieldsList-from_slice_split g blank text rest done callee calls) count)
+
+pub read_none : (ws : List (List ℕ)) → ReadTo ws 0 []
+unfolding all_numbers values
+read_none ws = record { all = refl; are = refl }

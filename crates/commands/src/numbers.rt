@@ -1,50 +1,64 @@
-// The numbers of a line: the parts after its first, each a number, and at most eight.
-ghost use Rattle.std.specs.Prelude.{drop};
+// The numbers of a line: its parts after the first, each a number, and at most eight.
+ghost use Rattle.std.specs.Prelude.{[], ◌∷◌, ◌++◌, ◌≡◌, ◌≤◌, length, drop, MatchOption};
 ghost use Rattle.commands.specs.Numbers.{Read};
-ghost use Rattle.text.specs.Part.{parts_left};
+ghost use Rattle.text.specs.Part.{parts};
 
-use text::number::{Number, number_in};
-use text::part::part_end;
+use std::marker::Model;
+use text::number::number_in;
 
-// The first `count` of `n`, where `good`.
-#[derive(Clone, Copy)]
+// A contract sees the numbers as a list.
+#[derive(Drop)]
 pub struct Numbers {
-    pub good: bool,
-    pub count: usize,
-    pub n: [u16; 8],
+    words: [u16; 8],
+    count: usize,
 }
 
-// Reads the parts from `from` on, where the first part has ended.
-pub fn numbers_in(text: &[u8], from: usize) -> Numbers
-    ensures { Read result (parts_left (drop from text.now)) }
-{
-    let mut n = [0u16; 8];
-    let mut count: usize = 0;
-    let mut at = from;
-    while at < text.len() {
-        let start = at + 1;
-        let end = part_end(text, start);
-        let Number::Is(v) = number_in(&text[start..end]) else {
-            return Numbers {
-                good: false,
-                count: 0,
-                n,
-            };
-        };
-        if count >= 8 {
-            return Numbers {
-                good: false,
-                count: 0,
-                n,
-            };
+impl Model for Numbers {
+    ghost use Rattle.std.specs.Prelude.{List, ℕ, ◌≤◌, take};
+
+    ghost Value = { List ℕ };
+
+    ghost view = { λ n. take n.count n.words };
+
+    ghost invariant = { λ n. n.count ≤ 8 };
+}
+
+impl Numbers {
+    fn new() -> Numbers
+        ensures { result ≡ [] }
+    {
+        Numbers {
+            words: [0u16; 8],
+            count: 0,
         }
-        n[count] = v;
-        count += 1;
-        at = end;
     }
-    Numbers {
-        good: true,
-        count,
-        n,
+
+    // One number more, if there is room.
+    fn push(&mut self, n: u16) -> Option<()>
+        ensures { MatchOption result (8 ≤ length self.old) (λ _. self.new ≡ self.old ++ (n ∷ [])) }
+    {
+        if self.count >= 8 {
+            return None;
+        }
+        self.words[self.count] = n;
+        self.count += 1;
+        Some(())
+    }
+
+    pub fn as_slice(&self) -> &[u16]
+        ensures { result.now ≡ self.now }
+    {
+        &self.words[..self.count]
+    }
+
+    // The parts of a line after its first; none if they are not the numbers of a command.
+    pub fn of(text: &[u8]) -> Option<Numbers>
+        ensures { Read result (drop 1 (parts text.now)) }
+    {
+        let mut numbers = Numbers::new();
+        for part in text.split(|b| *b == b' ').skip(1) {
+            numbers.push(number_in(part)?)?;
+        }
+        Some(numbers)
     }
 }

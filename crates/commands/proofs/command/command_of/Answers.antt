@@ -1,5 +1,5 @@
 -- `command_of`. What stands behind the first blanks, to the line's end, has the line's command.
-use native.Mathlib.Omega.{arith}
+use Rattle.std.proofs.Common.{arith}
 use Rattle.commands.proofs.Whole.{reader_within}
 use Rattle.commands.proofs.command.command_of.Goals as goal
 
