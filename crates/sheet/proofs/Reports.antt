@@ -1,12 +1,12 @@
 -- The ways through report: settled by counting the waiting squares near the area, the errors counted and listed, and the call's answers in the order of their numbers.
 use Prim.Native.Nat.{ℕ, ◌≤◌, ◌<◌}
 use native.Mathlib.Omega.{arith}
-use mathlib.Core.Bool.{Bool, cond}
+use mathlib.Core.Bool.{cond}
 use mathlib.Core.Path.{◌≡◌, refl, sym, ◌∙◌, ap, subst}
 use mathlib.Core.Logic.{inl, inr}
 use mathlib.Core.List.{List, [], ◌∷◌}
 use lib.ListN.{length}
-use borrow.Author.Tests.{eq-eqb, ne_eqb}
+use lib.Dec.{eqb}
 use Rattle.plane.specs.declared.tile.Area.{Area}
 use Rattle.plane.specs.Area.{AreaIn, squares_in, tiles_in}
 use Rattle.plane.specs.Listing.{Fits, ListedTo, listed}
@@ -27,17 +27,10 @@ pub near_in : {w h : ℕ} {a near : Area} (k : ℕ) → near ≡ around w h k a 
 near_in {w} {h} {a} k e A =
     subst (λ (b : Area). AreaIn w h b) (sym e) (record { some_x = omega (arith, A.some_x, A.in_x); some_y = omega (arith, A.some_y, A.in_y); in_x = omega arith; in_y = omega arith })
 
-module _ (ws : List ℕ) (k : ℕ) (a near : Area) {n : ℕ} (e : near ≡ around (width ws) (height ws) k a) (q : n ≡ squares_in (picture_of ws) 1 near) where
-  around_count : n ≡ squares_in (picture_of ws) 1 (around (width ws) (height ws) k a)
-  around_count = q ∙ ap (squares_in (picture_of ws) 1) e
-
-  pub settled_yes : n ≡ 0 → 1 ≡ settled ws k a
-  unfolding settled
-  settled_yes u = ap {B = ℕ} (λ (b : Bool). cond b 1 0) (sym (eq-eqb (squares_in (picture_of ws) 1 (around (width ws) (height ws) k a)) 0 (sym around_count ∙ u)))
-
-  pub settled_no : (n ≡ 0 → ⊥) → 0 ≡ settled ws k a
-  unfolding settled
-  settled_no f = ap {B = ℕ} (λ (b : Bool). cond b 1 0) (sym (ne_eqb (squares_in (picture_of ws) 1 (around (width ws) (height ws) k a)) 0 (λ z. f (around_count ∙ z))))
+-- the waiting squares near it are counted, and there are none or some
+pub settled_by_count : (ws : List ℕ) (k : ℕ) (a near : Area) {n : ℕ} → near ≡ around (width ws) (height ws) k a → n ≡ squares_in (picture_of ws) 1 near → cond (eqb n 0) 1 0 ≡ settled ws k a
+unfolding settled
+settled_by_count ws k a near e q = rw (q, e)
 
 -- the rules of a fit list reach no farther than 16
 pub halo_narrow : {l : Layout} {rules : List ℕ} {used k : ℕ} → Fit l rules used → k ≡ halo_of rules used → k ≤ 16

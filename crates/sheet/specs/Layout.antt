@@ -1,5 +1,6 @@
 -- A layout: three tables of one length and one window, material, errors and waiting.
 use Rattle.std.specs.Prelude.{ℕ, ◌≡◌, List, length}
+use Rattle.sheet.specs.declared.shape.Layout.{Layout as Lent}
 use Rattle.plane.specs.Words.{width, height, kinds, room_in, TableLength, PictureTable}
 use Rattle.rules.specs.Vetting.{ListLength}
 
@@ -12,6 +13,10 @@ pub record Layout : Type 0 where
 -- the three slices of a call
 abbrev pub lent : List ℕ → List ℕ → List ℕ → Layout
 lent m e w = record { material = m; errors = e; waiting = w }
+
+-- the words of a layout that is lent
+abbrev pub tables : Lent → Layout
+tables l = lent l.material.now l.errors.now l.waiting.now
 
 -- the room of a layout
 abbrev pub room : Layout → ℕ

@@ -1,39 +1,74 @@
 // Report on an area: is it settled, and what errors are recorded in it. The two halves know nothing of one another.
-ghost use Rattle.std.specs.Prelude.{◌≡◌, ◌≤◌};
+ghost use Rattle.std.specs.Prelude.{◌≡◌, ◌≤◌, cond};
+ghost use Rattle.plane.specs.Answers.{refusal_number};
 ghost use Rattle.plane.specs.Area.{AreaIn};
-ghost use Rattle.plane.specs.Words.{width, height, PictureTable};
-ghost use Rattle.sheet.specs.Answers.{errors_number, errors_squares, errors_tiles, report_number, report_place, found_by};
-ghost use Rattle.sheet.specs.Layout.{lent};
+ghost use Rattle.plane.specs.Words.{width, height};
+ghost use Rattle.sheet.specs.Answers.{as_report, error_number, errors_number, errors_squares, errors_tiles, report_number, report_place, found_by};
+ghost use Rattle.sheet.specs.Layout.{tables};
 ghost use Rattle.sheet.specs.Ready.{Fit};
 ghost use Rattle.sheet.specs.Report.{around, settled, Reported};
 ghost use Rattle.sheet.specs.Steps.{ErrorsFound};
 
-use crate::shape::{Tested, ready};
-use plane::area::{area_in, count_squares, list_tiles};
+use crate::shape::{Layout, SheetError};
+use plane::answer::Refusal;
+use plane::table::Table;
 use plane::tile::Area;
-use plane::words::{least, less};
-use rules::list::halo_of;
+use rules::list::RuleList;
 
-// The errors of an area: squares, and tiles listed; or the listing has no room.
-#[derive(Clone, Copy)]
-pub enum Errors {
-    Listed { squares: usize, tiles: usize },
-    Full,
+// The type of a marked square, in the errors and in what waits.
+const MARKED: u16 = 1;
+
+// What is found in an area: is it settled, how many error squares are recorded in it, and how many error tiles meet it.
+#[derive(Clone, Copy, PartialEq, Eq)]
+pub struct Found {
+    pub settled: bool,
+    pub squares: usize,
+    pub tiles: usize,
 }
 
-// The answer of report. Each refusal is a case of its own, so that its number and place tell the answer.
-#[derive(Clone, Copy)]
-pub enum ReportAnswer {
-    Found {
-        settled: u16,
-        squares: usize,
-        tiles: usize,
-    },
+// What speaks against a report: the layout or its rules, the area, or the room for the listing.
+#[derive(Clone, Copy, PartialEq, Eq)]
+pub enum ReportError {
     Lengths,
     NoTable,
     BadRule(u16),
-    NoPlace,
+    Place,
     Full,
+}
+
+// What speaks against a layout speaks against a report on it.
+impl From<SheetError> for ReportError {
+    ghost from_gives = { λ e r. r ≡ as_report e };
+
+    fn from(e: SheetError) -> ReportError {
+        match e {
+            SheetError::Lengths => ReportError::Lengths,
+            SheetError::NoTable => ReportError::NoTable,
+            SheetError::BadRule(i) => ReportError::BadRule(i),
+        }
+    }
+}
+
+// The number of such a refusal, without its place.
+impl From<ReportError> for Refusal {
+    ghost from_gives = { λ e r. refusal_number r ≡ error_number e };
+
+    fn from(e: ReportError) -> Refusal {
+        match e {
+            ReportError::Lengths => Refusal::Lengths,
+            ReportError::NoTable => Refusal::NoTable,
+            ReportError::BadRule(_) => Refusal::NoRule,
+            ReportError::Place => Refusal::Place,
+            ReportError::Full => Refusal::Full,
+        }
+    }
+}
+
+// The errors recorded in an area: the squares, and the tiles that are listed.
+#[derive(Clone, Copy, PartialEq, Eq)]
+pub struct Errors {
+    pub squares: usize,
+    pub tiles: usize,
 }
 
 // The squares of a window w by h within k of an area.
@@ -42,87 +77,73 @@ fn around(w: u16, h: u16, k: u16, a: Area) -> Area
     ensures { result ≡ around w h k a }
 {
     Area {
-        x1: less(a.x1, k),
-        y1: less(a.y1, k),
-        x2: least(w, a.x2 + k),
-        y2: least(h, a.y2 + k),
+        x1: a.x1.saturating_sub(k),
+        y1: a.y1.saturating_sub(k),
+        x2: w.min(a.x2 + k),
+        y2: h.min(a.y2 + k),
     }
 }
 
-// Is an area settled, 1 or 0: no waiting square lies within k of it? Not a public call: its caller has tested the table and the area.
-pub fn settled_in(waiting: &[u16], k: u16, a: Area) -> u16
-    requires picture_table { PictureTable waiting.now }
-    requires area_in { (AreaIn (width waiting.now) (height waiting.now) a) × (k ≤ 16) }
-    ensures { result ≡ settled waiting.now k a }
+// Is an area settled: no waiting square lies within k of it? Not a public call: its caller has tested the table and the area.
+#[tactic(auto, using(crate::proofs::Reports::settled_by_count))]
+pub fn settled_in(waiting: &Table<'_>, k: u16, a: Area) -> bool
+    requires { (AreaIn (width waiting.now) (height waiting.now) a) × (k ≤ 16) }
+    ensures { cond result 1 0 ≡ settled waiting.now k a }
 {
-    let near = around(waiting[1], waiting[2], k, a);
-    if count_squares(waiting, 1, near) == 0 {
-        return 1;
-    }
-    0
+    let near = around(waiting.width(), waiting.height(), k, a);
+    waiting.count_squares(MARKED, near) == 0
 }
 
-// The errors recorded in an area: the squares counted, and the tiles listed. Not a public call either.
-pub fn errors_in(errors: &[u16], a: Area, out: &mut [u16]) -> Errors
-    requires picture_table { PictureTable errors.now }
-    requires area_in { AreaIn (width errors.now) (height errors.now) a }
+// The errors recorded in an area, counted and listed; none where the listing has no room. Not a public call either.
+#[tactic(auto, using(crate::proofs::Reports::errors_full))]
+pub fn errors_in(errors: &Table<'_>, a: Area, out: &mut [u16]) -> Option<Errors>
+    requires { AreaIn (width errors.now) (height errors.now) a }
     ensures { ErrorsFound errors.now a out.old (errors_number result) (errors_squares result) (errors_tiles result) out.new }
 {
-    let tiles = list_tiles(errors, 1, a, out, 0);
+    let tiles = errors.list_tiles(MARKED, a, out, 0);
     if out.len() < tiles {
-        return Errors::Full;
+        return None;
     }
-    list_tiles(errors, 1, a, out, tiles);
-    let squares = count_squares(errors, 1, a);
-    Errors::Listed { squares, tiles }
+    errors.list_tiles(MARKED, a, out, tiles);
+    let squares = errors.count_squares(MARKED, a);
+    Some(Errors { squares, tiles })
 }
 
 // Report on a layout and rules that are good.
+#[tactic(auto, using(plane::proofs::FromTable::table_plane, crate::proofs::Shapes::marks_area))]
 fn report_in(
-    material: &[u16],
-    errors: &[u16],
-    waiting: &[u16],
-    rules: &[u16],
-    used: usize,
+    layout: Layout<'_>,
+    rules: RuleList<'_>,
     a: Area,
     out: &mut [u16],
-) -> ReportAnswer
-    requires { Fit (lent material.now errors.now waiting.now) rules.now used }
-    ensures { Reported (lent material.now errors.now waiting.now) rules.now used a out.old (report_number result) (report_place result) (found_by result out.new) }
+) -> Result<Found, ReportError>
+    requires { Fit (tables layout) rules.words.now rules.used }
+    ensures { Reported (tables layout.entry) rules.entry.words.now rules.entry.used a out.old (report_number result) (report_place result) (found_by result out.new) }
 {
-    if !area_in(material[1], material[2], a) {
-        return ReportAnswer::NoPlace;
+    if !a.lies_in(layout.material[1], layout.material[2]) {
+        return Err(ReportError::Place);
     }
-    let halo = halo_of(rules, used);
-    let settled = settled_in(waiting, halo, a);
-    let found = errors_in(errors, a, out);
-    let Errors::Listed { squares, tiles } = found else {
-        return ReportAnswer::Full;
+    let halo = rules.halo();
+    let settled = settled_in(&Table::of(layout.waiting), halo, a);
+    let Some(errors) = errors_in(&Table::of(layout.errors), a, out) else {
+        return Err(ReportError::Full);
     };
-    ReportAnswer::Found {
+    Ok(Found {
         settled,
-        squares,
-        tiles,
-    }
+        squares: errors.squares,
+        tiles: errors.tiles,
+    })
 }
 
 // Is the area settled, how many error squares are recorded in it, and which error tiles meet it? Their numbers are written to the slice.
 pub fn report(
-    material: &[u16],
-    errors: &[u16],
-    waiting: &[u16],
-    rules: &[u16],
-    used: usize,
+    layout: Layout<'_>,
+    rules: RuleList<'_>,
     a: Area,
     out: &mut [u16],
-) -> ReportAnswer
-    ensures { Reported (lent material.now errors.now waiting.now) rules.now used a out.old (report_number result) (report_place result) (found_by result out.new) }
+) -> Result<Found, ReportError>
+    ensures { Reported (tables layout.entry) rules.entry.words.now rules.entry.used a out.old (report_number result) (report_place result) (found_by result out.new) }
 {
-    let tested = ready(material, errors, waiting, rules, used);
-    match tested {
-        Tested::Good => report_in(material, errors, waiting, rules, used, a, out),
-        Tested::Lengths => ReportAnswer::Lengths,
-        Tested::NoTable => ReportAnswer::NoTable,
-        Tested::BadRule(i) => ReportAnswer::BadRule(i),
-    }
+    layout.ready(rules)?;
+    report_in(layout, rules, a, out)
 }

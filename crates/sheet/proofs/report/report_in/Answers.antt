@@ -1,8 +1,8 @@
--- A law of Reports at each return.
+-- The area lies in the marks' window too, and fit rules reach no farther than 16.
 use native.Mathlib.Omega.{arith}
 use Rattle.sheet.proofs.Reports.{halo_narrow}
 use Rattle.sheet.proofs.Shapes.{marks_area}
 use Rattle.sheet.proofs.report.report_in.Goals as goal
 
 pub settled_in-settled-requires : goal.settled_in-settled-requires
-settled_in-settled-requires c = let A = rw c.if-not-area_in.false at c.area_in.ensures in record { picture_table = c.requires.tables.waiting.table; area_in = (marks_area c.requires.tables.waiting A, omega (arith, halo_narrow c.requires c.halo_of-halo.ensures)) }
+settled_in-settled-requires c = (rw c.of.ensures (marks_area c.requires.tables.waiting c.if-not-lies_in.ensures), omega (arith, halo_narrow c.requires c.halo-halo.ensures))
