@@ -8,6 +8,11 @@ use Rattle.replies.specs.declared.reply.Reply.TheVariants.{Ok, No, Check, Report
 abbrev pub spaced : ℕ → List ℕ
 spaced n = 32 ∷ decimal n
 
+-- the end of a line: numbers, each behind a blank, and the line end
+abbrev pub ended : List ℕ → List ℕ
+ended [] = 10 ∷ []
+ended (n ∷ ns) = spaced n ++ ended ns
+
 -- `ok`, `no number line`, `check answer done left`, `report settled squares tiles`
 abbrev pub reply_bytes : Reply → List ℕ
 reply_bytes Ok = 111 ∷ 107 ∷ 10 ∷ []

@@ -1,10 +1,9 @@
-// The session's replies, as bytes put into a lent slice: 80 at most for one.
-ghost use Rattle.std.specs.Prelude.{[], ◌∷◌, ◌++◌, ◌+◌, ◌≤◌, length};
-ghost use Rattle.replies.specs.Reply.{spaced, reply_bytes};
-ghost use Rattle.text.specs.Put.{Put};
+// The session's replies, as bytes put into a lent slice: 80 at most for one. No `write!`: its contract says nothing of when a write succeeds, and a reply that has its room is put for sure.
+ghost use Rattle.std.specs.Prelude.{◌++◌, ◌+◌, ◌≤◌, length};
+ghost use Rattle.replies.specs.Reply.{ended, reply_bytes};
+ghost use Rattle.text.specs.Put.{Puts, Room};
 
-use text::number::put_decimal;
-use text::word::{put_byte, put_word};
+use text::writer::Writer;
 
 // What a line is answered with.
 #[derive(Clone, Copy)]
@@ -26,64 +25,36 @@ pub enum Reply {
     },
 }
 
-// Puts a blank and n in decimal at `at`.
-fn put_spaced(out: &mut [u8], at: usize, n: u64) -> usize
-    requires { at + 21 ≤ length out.old }
-    ensures { (Put out.old out.new at result (spaced n)) × (result ≤ at + 21) }
-{
-    let p = put_byte(out, at, 32);
-    put_decimal(out, p, n)
-}
-
-// Puts two numbers, each behind a blank, and a line end at `at`.
-fn put_ends(out: &mut [u8], at: usize, x: u64, y: u64) -> usize
-    requires { at + 43 ≤ length out.old }
-    ensures { (Put out.old out.new at result (spaced x ++ (spaced y ++ (10 ∷ [])))) × (result ≤ at + 43) }
-{
-    let a = put_spaced(out, at, x);
-    let b = put_spaced(out, a, y);
-    put_byte(out, b, 10)
-}
-
-// Puts a word, two numbers and a line end at `at`.
-fn put_two(out: &mut [u8], at: usize, word: &[u8], x: u64, y: u64) -> usize
-    requires { (length word.now ≤ 8) × (at + 80 ≤ length out.old) }
-    ensures { (Put out.old out.new at result (word.now ++ (spaced x ++ (spaced y ++ (10 ∷ []))))) × (result ≤ at + 80) }
-{
-    let a = put_word(out, at, word);
-    put_ends(out, a, x, y)
-}
-
-// Puts a word, three numbers and a line end at `at`.
-fn put_three(out: &mut [u8], at: usize, word: &[u8], x: u64, y: u64, z: u64) -> usize
-    requires { (length word.now ≤ 8) × (at + 80 ≤ length out.old) }
-    ensures { (Put out.old out.new at result (word.now ++ (spaced x ++ (spaced y ++ (spaced z ++ (10 ∷ [])))))) × (result ≤ at + 80) }
-{
-    let a = put_word(out, at, word);
-    let b = put_spaced(out, a, x);
-    put_ends(out, b, y, z)
-}
-
-// Puts a reply line at `at`, and answers the place after it.
-pub fn put_reply(out: &mut [u8], at: usize, reply: Reply) -> usize
-    requires { at + 80 ≤ length out.old }
-    ensures { (Put out.old out.new at result (reply_bytes reply)) × (result ≤ at + 80) }
-{
-    match reply {
-        Reply::Ok => put_word(out, at, b"ok\n"),
-        Reply::No { number, line } => put_two(out, at, b"no", number as u64, line),
-        Reply::Check { answer, done, left } => put_three(
-            out,
-            at,
-            b"check",
-            answer as u64,
-            done,
-            left,
-        ),
-        Reply::Report {
-            settled,
-            squares,
-            tiles,
-        } => put_three(out, at, b"report", settled, squares, tiles),
+impl Reply {
+    // Puts the reply's line.
+    pub fn put(self, out: &mut Writer<'_>)
+        requires { Room out.old 80 }
+        ensures { (Puts out.old out.new (reply_bytes self)) × (out.new.at ≤ out.old.at + 80) }
+    {
+        match self {
+            Reply::Ok => put_line(out, b"ok", &[]),
+            Reply::No { number, line } => put_line(out, b"no", &[u64::from(number), line]),
+            Reply::Check { answer, done, left } => {
+                put_line(out, b"check", &[u64::from(answer), done, left])
+            }
+            Reply::Report {
+                settled,
+                squares,
+                tiles,
+            } => put_line(out, b"report", &[settled, squares, tiles]),
+        }
     }
+}
+
+// Puts a line: a word, and numbers, each behind a blank.
+fn put_line(out: &mut Writer<'_>, word: &[u8], numbers: &[u64])
+    requires { (length word.now ≤ 8) × (length numbers.now ≤ 3) × Room out.old 80 }
+    ensures { (Puts out.old out.new (word.now ++ ended numbers.now)) × (out.new.at ≤ out.old.at + 80) }
+{
+    out.put_word(word);
+    for n in numbers {
+        out.put_byte(b' ');
+        out.put_decimal(*n);
+    }
+    out.put_byte(b'\n');
 }
