@@ -36,6 +36,11 @@ pub record BrushIn (w h : ℕ) (b : Brush) : Type 0 where
   pub area : AreaIn w h b.area
   pub small : SmallBits b
 
+-- the types that an ink sets are below k: bits are 0 and 1, and every table has two types
+abbrev pub KindsBelow : Ink → ℕ → Type 0
+KindsBelow (OneType kind) k = kind < k
+KindsBelow (Bits rows) k = Unit {0}
+
 -- the type that an ink gives a square of an area: its one type, or the square's bit
 unfoldable pub ink_at : Ink → Area → ℕ → ℕ → ℕ
 ink_at (OneType k) a x y = k

@@ -2,7 +2,8 @@
 ghost use Rattle.std.specs.Prelude.{◌<◌, ◌≤◌, ◌≡◌};
 ghost use Rattle.plane.specs.Picture.{bit_of};
 ghost use Rattle.plane.specs.Strips.{Holds};
-ghost use Rattle.brush.specs.Brush.{InArea, SmallBits, OtherBits, SameBits, InkTile, Clipped};
+ghost use Rattle.plane.specs.Words.{Says};
+ghost use Rattle.brush.specs.Brush.{BrushIn, InArea, KindsBelow, SmallBits, OtherBits, SameBits, InkTile, Clipped};
 
 use plane::tile::{Area, Tile};
 
@@ -49,7 +50,30 @@ fn same_bits(word: u64, i: u16, n: u16) -> (u16, u16)
     (left, right.min(n))
 }
 
+impl Ink {
+    // Are the types that it sets below k? Bits are 0 and 1, which every table has.
+    pub fn is_below(&self, k: u16) -> bool
+        ensures { Says result (KindsBelow self.now k) }
+    {
+        match self {
+            Ink::Flat(kind) => *kind < k,
+            Ink::Bits(_) => true,
+        }
+    }
+}
+
 impl Brush {
+    // Does the area lie in a window w by h, and is it at most 48 by 48 if bits are set?
+    pub fn lies_in(&self, w: u16, h: u16) -> bool
+        ensures { Says result (BrushIn w h self.now) }
+    {
+        let a = self.area;
+        match &self.ink {
+            Ink::Flat(_) => a.lies_in(w, h),
+            Ink::Bits(_) => a.lies_in(w, h) && a.x2 - a.x1 <= 48 && a.y2 - a.y1 <= 48,
+        }
+    }
+
     // A rectangle of one type in the brush's area, that holds (x,y): all of it, or of bits the run of equal bits of row y.
     pub fn ink_tile(&self, x: u16, y: u16) -> Tile
         requires inside { InArea self.now.area x y }

@@ -9,6 +9,7 @@ use plane::table::Table;
 use plane::tile::{Area, Tile};
 use std::marker::Model;
 
+#[derive(Drop)]
 pub struct Painting<'a> {
     table: &'a Table<'a>,
     brush: &'a Brush,
