@@ -1,5 +1,4 @@
 -- The laws of whole tables, each file named after its subject.
-pub mod Fills
 pub mod Finish
 pub mod Whole
 pub mod OneTile

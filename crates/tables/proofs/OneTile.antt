@@ -9,7 +9,7 @@ use Rattle.plane.specs.declared.tile.Tile.{Tile}
 use Rattle.plane.specs.Picture.{space, table, tiles}
 use Rattle.plane.specs.Strips.{Strip, Strips}
 use Rattle.plane.specs.Words.{InRange, IsTable, up_to}
-use Rattle.strips.specs.Cover.{Built}
+use Rattle.strips.specs.Cover.{AllBuilt}
 use Rattle.slots.specs.Slots.{PutTile}
 use Rattle.plane.proofs.Tiling.{strips_are_tiles}
 use Rattle.tables.proofs.Whole.{made_table}
@@ -34,11 +34,11 @@ whole_strips w h a b = record {
 }
 
 -- the tile put is all that is built
-pub space_built : {w h c : ℕ} {us ws : List ℕ} → PutTile us ws 0 (whole w h) → 1 ≤ w → 1 ≤ h → 1 ≤ c → Built w h space c ws 1
+pub space_built : {w h c : ℕ} {us ws : List ℕ} → PutTile us ws 0 (whole w h) → 1 ≤ w → 1 ≤ h → 1 ≤ c → AllBuilt w h space c ws 1
 unfolding up_to
 space_built {w} {h} {c} {us} {ws} P a b d = record {
-  full = λ u. absurd (omega arith);
-  built = λ u. ap (λ (t : Tile). t ∷ []) P.new ∙ strips_are_tiles w h space (whole w h ∷ []) (whole_strips w h a b);
+  few = d;
+  built = ap (λ (t : Tile). t ∷ []) P.new ∙ strips_are_tiles w h space (whole w h ∷ []) (whole_strips w h a b);
 }
 
 pub space_one : (w h : ℕ) → 1 ≤ w → 1 ≤ h → length (tiles w h space) ≡ 1

@@ -1,43 +1,32 @@
 -- The rebuild against the specification: a table is what the rebuild is handed, its picture after is the painted or stamped one, and what is made of it is a table.
 use Prim.Native.Nat.{ℕ, ◌+◌, ◌-◌, ◌*◌, ◌≤◌, ◌<◌}
 use native.Mathlib.Omega.{arith}
-use mathlib.Core.Bool.{Bool, true, false, cond}
 use mathlib.Core.Path.{◌≡◌, refl, sym, ◌∙◌, ap, subst}
 use mathlib.Core.Logic.{⊎_elim}
 use mathlib.Core.List.{List}
 use lib.ListN.{length, get_or}
 use lib.Dec.{lit≤}
 use Rattle.plane.specs.declared.tile.Area.{Area}
-use Rattle.plane.specs.Picture.{Picture, area, bit_of, holds, in_area, painted, space, stamped, table, tiles, written}
+use Rattle.plane.specs.Picture.{Picture, area, in_area, painted, space, stamped, table, tiles, written}
 use Rattle.plane.specs.Plane.{Plane}
-use Rattle.plane.specs.Words.{InRange, IsTable, PictureTable, count, height, kinds, picture_of, room_in, tile_of, width}
+use Rattle.plane.specs.Words.{InRange, IsTable, PictureTable, count, height, kinds, picture_of, room_in, width}
+use Rattle.std.specs.Prelude.{Option, Some, None}
+use Rattle.std.proofs.lemmas.Nat.Bits.{bit_at-lt}
 use Rattle.brush.specs.declared.brush.Brush.{Brush}
-use Rattle.strips.specs.Cover.{Built}
-use Rattle.brush.specs.Brush.{Given, Shown, Small, after, brush_area, brush_tile, goal, inked}
+use Rattle.brush.specs.declared.brush.Ink.{Ink}
+use Rattle.brush.specs.declared.brush.Ink.TheVariants.{Flat as OneType, Bits}
+use Rattle.strips.specs.Cover.{AllBuilt, Built}
+use Rattle.brush.specs.Brush.{KindsBelow, after, goal, ink_at}
 use Rattle.tables.specs.Like.{table_like}
-use Rattle.tables.specs.Tables.{FlatBrush, MayPaint, Paintable, PaintedOver, TilesAfter}
-use Rattle.plane.proofs.Basics.{bool_cases, lt_or_ge, tf}
+use Rattle.tables.specs.Tables.{MayPaint, Paintable, PaintedOver, Repainted, TilesAfter, TilesFit, Unpainted}
+use Rattle.plane.proofs.Basics.{bool_cases}
 use Rattle.plane.proofs.FromTable.{picture_table, shows, table_plane}
-use Rattle.plane.proofs.Index.{holds_dec, later, mem_nth, mem_up_to}
+use Rattle.plane.proofs.Index.{mem_nth}
 use Rattle.plane.proofs.Tables.{written_count, written_height, written_kinds, written_length, written_width}
 use Rattle.plane.proofs.Tiling.{tiles_strips}
-use Rattle.plane.proofs.ToTable.{plane_strips}
 use Rattle.tables.proofs.Finish.{built_number}
-use Rattle.brush.proofs.Pieces.{after_in, after_out}
 
 -- ---- a table, as the rebuild takes it
-pub plane_shown : (ws : List ℕ) → Plane ws → Shown ws
-plane_shown ws P =
-    let S = plane_strips ws P in
-    record {
-      room = P.sized.whole;
-      wide = P.header.sizes.wide_most;
-      tall = P.header.sizes.tall_most;
-      each = λ i u. S.each (tile_of ws i) (mem_up_to (count ws) (tile_of ws) i u);
-      order = later (count ws) (tile_of ws) P.order;
-      cover = P.cover;
-    }
-
 -- a table's length is its room's
 pub table_words : (c w h k : ℕ) (p : Picture) → length (tiles w h p) ≤ c → length (table c w h k p) ≡ 4 + 9 * c
 unfolding table
@@ -55,12 +44,18 @@ pub table_size : (c w h k : ℕ) (p : Picture) → (width (table c w h k p) ≡ 
 unfolding table
 table_size c w h k p = (written_width c w h k (tiles w h p), written_height c w h k (tiles w h p), written_kinds c w h k (tiles w h p))
 
--- what may be painted is what the rebuild is handed
-pub may_given : {c : ℕ} {ws : List ℕ} {b : Brush} → MayPaint c ws b → Given ws b
-may_given {c} {ws} M = let P = table_plane c ws M.table in record { plane = P; shown = plane_shown ws P; brush = M.brush }
+-- what may be painted is a plane, of that room
+pub may_plane : {c : ℕ} {ws : List ℕ} {b : Brush} → MayPaint c ws b → Plane ws
+may_plane {c} {ws} M = table_plane c ws M.table
+
+pub paintable_plane : {c : ℕ} {ws : List ℕ} {a : Area} → Paintable c ws a → Plane ws
+paintable_plane {c} {ws} P = table_plane c ws P.table
 
 pub may_room : {c : ℕ} {ws : List ℕ} {b : Brush} → MayPaint c ws b → (length ws ≡ 4 + 9 * c) × (count ws ≤ c) × (c ≤ 3600)
 may_room M = (table_length M.table, M.table.room, M.small)
+
+pub table_rooms : {c : ℕ} {ws : List ℕ} → IsTable c ws → (4 + 9 * c ≤ length ws) × (count ws ≤ c)
+table_rooms T = (omega (arith, table_length T), T.room)
 
 -- ---- a picture's table is a table
 -- every window has a tile
@@ -99,68 +94,45 @@ stamped_types {ws = ws} a rows I x y u v =
     ⊎_elim (λ e. rw e (omega arith)) (λ e. rw e (I.types x y u v)) (bool_cases (in_area a x y))
 
 -- and so are those that a brush gives
-ink_types : {c : ℕ} {ws : List ℕ} {b : Brush} → MayPaint c ws b → (x y : ℕ) → inked b x y < kinds ws
-unfolding inked
-ink_types {ws = ws} {b = b} M x y =
-    let t : 2 ≤ kinds ws = M.table.header.sizes.two in
-    ⊎_elim (λ e. rw e (omega arith)) (λ e. rw e (M.type e)) (bool_cases b.bits)
+ink_types : {k : ℕ} (i : Ink) (a : Area) → 2 ≤ k → KindsBelow i k → (x y : ℕ) → ink_at i a x y < k
+unfolding ink_at
+ink_types (OneType kind) a t u x y = u
+ink_types (Bits rows) a t u x y = omega (arith, bit_at-lt (get_or rows (y - a.y1) 0) (x - a.x1))
 
 after_types : {c : ℕ} {ws : List ℕ} {b : Brush} → MayPaint c ws b → (x y : ℕ) → x < width ws → y < height ws → goal ws b x y < kinds ws
-after_types {ws = ws} {b = b} M x y u v = ⊎_elim
-    (λ h. subst (λ (k : ℕ). k < kinds ws) (sym (after_in (picture_of ws) b x y h)) (ink_types M x y))
-    (λ h. subst (λ (k : ℕ). k < kinds ws) (sym (after_out (picture_of ws) b x y h)) (M.table.types x y u v)) (holds_dec (brush_tile b) x y)
+unfolding after
+after_types {ws = ws} {b = b} M x y u v =
+    ⊎_elim (λ e. rw e (ink_types b.ink b.area M.table.header.sizes.two M.type x y)) (λ e. rw e (M.table.types x y u v)) (bool_cases (in_area b.area x y))
 
--- ---- what the rebuild makes: too many tiles, or a table
-module _ {c r : ℕ} {ws us : List ℕ} {b : Brush} (M : MayPaint c ws b) (B : Built (width ws) (height ws) (goal ws b) c us r) where
-  pub painted_full : c < r → PaintedOver c ws (goal ws b) ws r
-  painted_full u = record { number = λ v. absurd (omega arith); full = B.full; done = λ v. absurd (omega arith); stays = λ v. refl; sound = M.table }
+-- ---- what the rebuild makes: a table
+pub painted_done : {c r : ℕ} {ws us vs : List ℕ} {b : Brush} → MayPaint c ws b → AllBuilt (width ws) (height ws) (goal ws b) c us r
+    → vs ≡ table c (width ws) (height ws) (kinds ws) (goal ws b) → Repainted c ws (goal ws b) vs r
+painted_done {ws = ws} {vs = vs} {b = b} M B e = record {
+  room = B.few;
+  number = built_number B;
+  done = e;
+  sound = like_table (goal ws b) vs M.table e (omega (arith, built_number B, B.few)) (after_types M);
+}
 
-  pub painted_done : {vs : List ℕ} → r ≤ c → vs ≡ table c (width ws) (height ws) (kinds ws) (goal ws b) → PaintedOver c ws (goal ws b) vs r
-  painted_done {vs} u e = record {
-    number = λ v. built_number B v;
-    full = B.full;
-    done = λ v. e;
-    stays = λ v. absurd (omega arith);
-    sound = like_table (goal ws b) vs M.table e (omega (arith, built_number B u)) (after_types M);
-  }
+-- ---- a brush of one type, and one of bits
+pub after_painted : (p : Picture) (a : Area) (kind : ℕ) → after p (record { area = a; ink = OneType kind }) ≡ painted p a kind
+unfolding after ink_at painted
+after_painted p a kind = refl
 
--- ---- a brush of one kind, and one of bits
-after_cases : Picture → Brush → Bool → Picture
-after_cases p b o x y = cond (holds (brush_tile b) x y) (cond o (bit_of (get_or b.rows (y - b.y1) 0) (x - b.x1)) b.kind) (p x y)
+pub after_stamped : (p : Picture) (a : Area) (rows : List ℕ) → after p (record { area = a; ink = Bits rows }) ≡ stamped p a rows
+unfolding after ink_at stamped
+after_stamped p a rows = refl
 
-pub after_painted : (p : Picture) (b : Brush) → b.bits ≡ false → after p b ≡ painted p (brush_area b) b.kind
-unfolding after painted after_cases
-after_painted p b e = ap {B = Picture} (after_cases p b) e
+pub painted_as : (c : ℕ) (ws vs : List ℕ) {q s : Picture} (r : Option ℕ) → q ≡ s → PaintedOver c ws q vs r → PaintedOver c ws s vs r
+painted_as c ws vs r e P = subst (λ (p : Picture). PaintedOver c ws p vs r) e P
 
-pub after_stamped : (p : Picture) (b : Brush) → b.bits ≡ true → after p b ≡ stamped p (brush_area b) b.rows
-unfolding after stamped after_cases
-after_stamped p b e = ap {B = Picture} (after_cases p b) e
-
-pub flat_may : {c : ℕ} {ws : List ℕ} {b : Brush} → Paintable c ws (brush_area b) → b.kind < kinds ws → b.bits ≡ false → MayPaint c ws b
-flat_may P k e = record { table = P.table; small = P.small; brush = record { area = P.area; small = λ t. tf (sym t ∙ e) }; type = λ t. k }
-
--- a brush made for an area and a type is what the rebuild is handed, and its picture after is the painted one
-pub area_may : {c kind : ℕ} {ws : List ℕ} {a : Area} {b : Brush} → Paintable c ws a → kind < kinds ws → FlatBrush a kind b → MayPaint c ws b
-area_may {c} {kind} {ws} P k F = flat_may (subst (λ (d : Area). Paintable c ws d) (sym F.area) P) (omega (arith, F.type)) F.one
-
-pub after_flat : {kind : ℕ} (ws : List ℕ) {a : Area} {b : Brush} → FlatBrush a kind b → goal ws b ≡ painted (picture_of ws) a kind
-after_flat {kind} ws {a} {b} F = after_painted (picture_of ws) b F.one
-    ∙ (ap {B = Picture} (λ (d : Area). painted (picture_of ws) d b.kind) F.area ∙ ap {B = Picture} (painted (picture_of ws) a) F.type)
-
-pub bits_may : {c : ℕ} {ws : List ℕ} {b : Brush} → Paintable c ws (brush_area b) → Small (brush_area b) → b.bits ≡ true → MayPaint c ws b
-bits_may P s e = record { table = P.table; small = P.small; brush = record { area = P.area; small = λ t. s }; type = λ t. tf (sym e ∙ t) }
-
-pub painted_as : {c r : ℕ} {ws vs : List ℕ} {q s : Picture} → q ≡ s → PaintedOver c ws q vs r → PaintedOver c ws s vs r
-painted_as {c} {r} {ws} {vs} e P = subst (λ (p : Picture). PaintedOver c ws p vs r) e P
-
--- ---- how many tiles
--- a table that was made has so many
-pub tiles_of_lem : {c r : ℕ} {ws vs : List ℕ} {q : Picture} → PaintedOver c ws q vs r → TilesAfter c ws q r
-tiles_of_lem P = record { number = P.number; full = P.full }
-
--- and so have the tiles of the rebuild
-pub tiles_as : {c r : ℕ} {ws vs : List ℕ} {p q : Picture} → p ≡ q → Built (width ws) (height ws) p c vs r → TilesAfter c ws q r
-tiles_as {c} {r} {ws} {vs} {p} {q} e B = subst (λ (s : Picture). TilesAfter c ws s r) e (record { number = λ u. built_number B u; full = B.full })
+-- ---- how many tiles: those of the rebuild
+pub tiles_as : (c : ℕ) (ws vs : List ℕ) {p q : Picture} (r : Option ℕ) → p ≡ q → Built (width ws) (height ws) p c vs r → TilesAfter c ws q r
+tiles_as c ws vs {p} {q} r e B = subst (λ (s : Picture). TilesAfter c ws s r) e (counted r B)
+  where
+    counted : (m : Option ℕ) → Built (width ws) (height ws) p c vs m → TilesAfter c ws p m
+    counted (Some n) C = record { room = C.few; number = built_number C }
+    counted None C = C
 
 -- ---- the table of a picture after, if it has room
 pub painted_table : {c : ℕ} {ws : List ℕ} (a : Area) (k : ℕ) → IsTable c ws → k < kinds ws → length (tiles (width ws) (height ws) (painted (picture_of ws) a k)) ≤ c
@@ -185,13 +157,12 @@ pub paintable_room : {c : ℕ} {ws : List ℕ} {a : Area} → Paintable c ws a �
 paintable_room P = omega (arith, table_length P.table)
 
 -- what had room once has it again
-pub again_fits : {c r s : ℕ} {ws zs : List ℕ} {q : Picture} → TilesAfter c ws q r → r ≤ c → PaintedOver c ws q zs s → s ≤ c
-again_fits {c} {r} {s} P u Q = ⊎_elim (λ (o : c < s). absurd (omega (arith, Q.full o, P.number u))) (λ (o : s ≤ c). o) (lt_or_ge c s)
+pub again_fits : {c r : ℕ} {ws zs : List ℕ} {q : Picture} → TilesFit c ws q r → Unpainted c ws q zs → ⊥
+again_fits P Q = omega (arith, P.room, P.number, Q.full)
 
 -- where it has room, it is the picture's table
-module _ {c r : ℕ} {ws vs : List ℕ} {q : Picture} (e : c ≡ room_in (length ws)) (P : PaintedOver c ws q vs r) where
-  pub made : r ≤ c → vs ≡ table_like ws q
-  made u = P.done u ∙ ap (λ (n : ℕ). table n (width ws) (height ws) (kinds ws) q) e
+pub made : {c r : ℕ} {ws vs : List ℕ} {q : Picture} → c ≡ room_in (length ws) → Repainted c ws q vs r → vs ≡ table_like ws q
+made {ws = ws} {q = q} e P = P.done ∙ ap (λ (n : ℕ). table n (width ws) (height ws) (kinds ws) q) e
 
 -- a picture's table shows that picture in its window
 pub made_shows : (c w h k : ℕ) (q : Picture) (vs : List ℕ) → vs ≡ table c w h k q → length (tiles w h q) ≤ c → InRange w h k → ((x y : ℕ) → x < w → y < h → q x y < k)

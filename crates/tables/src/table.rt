@@ -5,9 +5,11 @@ ghost use Rattle.plane.specs.Picture.{table, space, painted, stamped};
 ghost use Rattle.plane.specs.Plane.{Plane};
 ghost use Rattle.plane.specs.Words.{kinds, picture_of};
 ghost use Rattle.brush.specs.Brush.{Small, goal};
-ghost use Rattle.tables.specs.Tables.{Headed, Zeroed, Cleared, Copied, MayPaint, Paintable, FlatBrush, TilesAfter, PaintedOver};
+ghost use Rattle.tables.specs.Tables.{Headed, Zeroed, Cleared, MayPaint, Paintable, TilesAfter, PaintedOver};
 
-use brush::brush::Brush;
+use brush::brush::{Brush, Ink};
+use brush::painting::Painting;
+use plane::table::Table;
 use plane::tile::{Area, Tile};
 use slots::slots::put_tile;
 use stitches::restitch::restitch;
@@ -19,10 +21,7 @@ pub fn put_header(work: &mut [u16], n: usize, w: u16, h: u16, k: u16)
     requires { (4 ≤ length work.old) × (n ≤ 65535) }
     ensures { Headed work.old work.new n w h k }
 {
-    work[0] = n as u16;
-    work[1] = w;
-    work[2] = h;
-    work[3] = k;
+    work[..4].copy_from_slice(&[n as u16, w, h, k]);
 }
 
 // Sets the words from one place up to another to zero.
@@ -30,11 +29,7 @@ fn clear_to(t: &mut [u16], from: usize, to: usize)
     requires { to ≤ length t.old }
     ensures { Zeroed t.old t.new from to }
 {
-    let mut i = from;
-    while i < to {
-        t[i] = 0;
-        i += 1;
-    }
+    t[from.min(to)..to].fill(0);
 }
 
 // Sets the words from a place on to zero.
@@ -49,19 +44,7 @@ pub fn clear_from(work: &mut [u16], from: usize)
 pub fn clear(work: &mut [u16])
     ensures { work.new ≡ replicate (length work.old) 0 }
 {
-    clear_from(work, 0);
-}
-
-// Copies the first n words.
-fn copy_front(from: &[u16], to: &mut [u16], n: usize)
-    requires { (n ≤ length from.now) × (n ≤ length to.old) }
-    ensures { Copied from.now to.old to.new n }
-{
-    let mut i = 0;
-    while i < n {
-        to[i] = from[i];
-        i += 1;
-    }
+    work.fill(0);
 }
 
 // The table t takes over the header and the n tiles that the working slice has. Where t had more tiles, their words become zero.
@@ -70,25 +53,23 @@ fn adopt(t: &mut [u16], work: &[u16], n: usize)
     ensures { Cleared work.now t.new (4 + 9 * n) }
 {
     let end = 4 + 9 * n;
-    let old = 4 + 9 * (t[0] as usize);
-    copy_front(work, t, end);
+    let old = 4 + 9 * usize::from(t[0]);
+    t[..end].copy_from_slice(&work[..end]);
     clear_to(t, end, old);
 }
 
-// Paints a table over: how many tiles it then has; more than its room, and the table as it was, where they are too many.
-fn paint_over(t: &mut [u16], b: Brush, work: &mut [u16], room: usize) -> usize
-    requires may_paint { MayPaint room t.old b }
+// Paints a table over: how many tiles it then has; none, and the table as it was, where they are more than its room.
+pub fn paint_over(t: &mut [u16], b: &Brush, work: &mut [u16], room: usize) -> Option<usize>
+    requires may_paint { MayPaint room t.old b.now }
     requires work_len { length work.old ≡ length t.old }
-    ensures { PaintedOver room t.old (goal t.old b) t.new result }
+    ensures { PaintedOver room t.old (goal t.old b.now) t.new result }
 {
-    let n = rebuild(t, b, work, room);
-    if room < n {
-        return n;
-    }
-    restitch(t, work, n);
+    let table = Table::of(t);
+    let n = rebuild(&Painting::of(&table, b), work, room)?;
+    restitch(&table, work, n);
     put_header(work, n, t[1], t[2], t[3]);
     adopt(t, work, n);
-    n
+    Some(n)
 }
 
 // The table of a window that is all space.
@@ -109,55 +90,54 @@ pub fn space_table(t: &mut [u16], w: u16, h: u16, kinds: u16, room: usize)
     clear_from(t, 13);
 }
 
-// An area of one type.
-fn flat_brush(a: Area, kind: u16) -> Brush
-    ensures { FlatBrush a kind result }
-{
-    Brush {
-        x1: a.x1,
-        y1: a.y1,
-        x2: a.x2,
-        y2: a.y2,
-        kind,
-        bits: false,
-        rows: [0u64; 48],
-    }
-}
-
 // Paints a table in place: an area is set to a type. The working slice may hold anything, before and after.
-pub fn paint_table(t: &mut [u16], a: Area, kind: u16, work: &mut [u16], room: usize) -> usize
+pub fn paint_table(
+    t: &mut [u16],
+    a: Area,
+    kind: u16,
+    work: &mut [u16],
+    room: usize,
+) -> Option<usize>
     requires paintable { Paintable room t.old a }
     requires kind_bound { (kind < kinds t.old) × (length work.old ≡ length t.old) }
     ensures { PaintedOver room t.old (painted (picture_of t.old) a kind) t.new result }
 {
-    let b = flat_brush(a, kind);
-    paint_over(t, b, work, room)
+    let b = Brush {
+        area: a,
+        ink: Ink::Flat(kind),
+    };
+    paint_over(t, &b, work, room)
 }
 
 // How many tiles that would be. The table stays, and it costs less, since nothing is stitched.
-pub fn tiles_after(t: &[u16], a: Area, kind: u16, work: &mut [u16], room: usize) -> usize
+pub fn tiles_after(t: &[u16], a: Area, kind: u16, work: &mut [u16], room: usize) -> Option<usize>
     requires paintable { Paintable room t.now a }
     requires kind_bound { (kind < kinds t.now) × (length work.old ≡ length t.now) }
     ensures { TilesAfter room t.now (painted (picture_of t.now) a kind) result }
 {
-    let b = flat_brush(a, kind);
-    rebuild(t, b, work, room)
+    let table = Table::of(t);
+    let b = Brush {
+        area: a,
+        ink: Ink::Flat(kind),
+    };
+    rebuild(&Painting::of(&table, &b), work, room)
 }
 
 // The same with an area of at most 48 by 48 squares set to its bits.
-pub fn stamp_table(t: &mut [u16], a: Area, rows: [u64; 48], work: &mut [u16], room: usize) -> usize
+pub fn stamp_table(
+    t: &mut [u16],
+    a: Area,
+    rows: [u64; 48],
+    work: &mut [u16],
+    room: usize,
+) -> Option<usize>
     requires paintable { Paintable room t.old a }
     requires small { (Small a) × (length work.old ≡ length t.old) }
     ensures { PaintedOver room t.old (stamped (picture_of t.old) a rows) t.new result }
 {
     let b = Brush {
-        x1: a.x1,
-        y1: a.y1,
-        x2: a.x2,
-        y2: a.y2,
-        kind: 0,
-        bits: true,
-        rows,
+        area: a,
+        ink: Ink::Bits(rows),
     };
-    paint_over(t, b, work, room)
+    paint_over(t, &b, work, room)
 }

@@ -5,4 +5,4 @@ use Rattle.tables.proofs.OneTile.{space_built}
 use Rattle.tables.proofs.table.space_table.Goals as goal
 
 pub returns : goal.returns
-returns c = finished (space_built c.put_tile.ensures c.requires.2 c.requires.3 c.requires.1) c.requires.1 c.stitch.ensures c.put_header.ensures c.clear_from.ensures (c.put_tile.ensures.long ∙ c.requires.0)
+returns c = finished (space_built c.put_tile.ensures c.requires.2 c.requires.3 c.requires.1) c.stitch.ensures c.put_header.ensures c.clear_from.ensures (c.put_tile.ensures.long ∙ c.requires.0)
