@@ -1,20 +1,17 @@
 -- What the calls leave is a table again: where they answer 0, and where they refuse a table.
 use Prim.Native.Nat.{ℕ}
 use native.Mathlib.Omega.{arith}
-use mathlib.Core.Path.{◌≡◌, refl, sym, ◌∙◌, subst}
+use mathlib.Core.Path.{sym, ◌∙◌, subst}
 use mathlib.Core.List.{List}
 use lib.ListN.{length}
-use Rattle.plane.specs.declared.answer.Answer.{Answer}
-use Rattle.plane.specs.declared.answer.Answer.TheVariants.{Done, No}
+use Rattle.std.specs.Prelude.{Result, Ok, Err}
 use Rattle.plane.specs.declared.answer.Refusal.{Refusal}
-use Rattle.plane.specs.declared.answer.Refusal.TheVariants.{Full, Kind, Lengths, NoRule, NoTable, Place, Sizes}
 use Rattle.plane.specs.declared.tile.Area.{Area}
 use Rattle.plane.specs.Answers.{number, refusal_number}
-use Rattle.plane.specs.Refusal.{if_done}
 use Rattle.plane.specs.Words.{IsTable, PictureTable, room_in}
 use Rattle.paint.specs.Paint.{Blanked, PlanePainted, PlaneStamped, blank_refusals, paint_refusals, stamp_refusals}
 use Rattle.tables.specs.Like.{painted_of, stamped_of, table_like}
-use Rattle.plane.proofs.Lowests.{all_hold}
+use Rattle.plane.proofs.Lowests.{all_hold, left_as_is, refusal_positive}
 use Rattle.tables.proofs.OneTile.{space_is_table}
 use Rattle.tables.proofs.Whole.{as_picture, painted_table, stamped_table}
 
@@ -35,19 +32,10 @@ stamp_table {ws} {vs} {work} {left} {rows} {a} B =
     as_picture (subst (λ (l : List ℕ). IsTable (room_in (length ws)) l) (sym B.outcome.leaves) (stamped_table a rows g.1.0 g.1.1.1.0))
 
 -- ---- whatever they answer, a table stays one
-left_old : (old new : List ℕ) (why : Refusal) → if_done (refusal_number why) new old ≡ old
-left_old old new Lengths = refl
-left_old old new Sizes = refl
-left_old old new NoTable = refl
-left_old old new NoRule = refl
-left_old old new Kind = refl
-left_old old new Place = refl
-left_old old new Full = refl
+pub paint_again : {ws vs work left : List ℕ} {a : Area} {k : ℕ} (r : Result (Unit {0}) Refusal) → PlanePainted ws a k work (number r) vs left → PictureTable ws → PictureTable vs
+paint_again (Ok x) B I = paint_table B
+paint_again {ws} {a = a} {k = k} (Err why) B I = subst (λ (l : List ℕ). PictureTable l) (left_as_is (refusal_number why) (table_like ws (painted_of ws a k)) ws (refusal_positive why) ∙ sym B.outcome.leaves) I
 
-pub paint_again : {ws vs work left : List ℕ} {a : Area} {k : ℕ} (r : Answer) → PlanePainted ws a k work (number r) vs left → PictureTable ws → PictureTable vs
-paint_again Done B I = paint_table B
-paint_again {ws} {a = a} {k = k} (No why) B I = subst (λ (l : List ℕ). PictureTable l) (sym (B.outcome.leaves ∙ left_old ws (table_like ws (painted_of ws a k)) why)) I
-
-pub stamp_again : {ws vs work left rows : List ℕ} {a : Area} (r : Answer) → PlaneStamped ws a rows work (number r) vs left → PictureTable ws → PictureTable vs
-stamp_again Done B I = stamp_table B
-stamp_again {ws} {rows = rows} {a = a} (No why) B I = subst (λ (l : List ℕ). PictureTable l) (sym (B.outcome.leaves ∙ left_old ws (table_like ws (stamped_of ws a rows)) why)) I
+pub stamp_again : {ws vs work left rows : List ℕ} {a : Area} (r : Result (Unit {0}) Refusal) → PlaneStamped ws a rows work (number r) vs left → PictureTable ws → PictureTable vs
+stamp_again (Ok x) B I = stamp_table B
+stamp_again {ws} {rows = rows} {a = a} (Err why) B I = subst (λ (l : List ℕ). PictureTable l) (left_as_is (refusal_number why) (table_like ws (stamped_of ws a rows)) ws (refusal_positive why) ∙ sym B.outcome.leaves) I

@@ -1,4 +1,4 @@
 -- The laws of the calls, each file named after its subject.
-pub mod Calls
+pub mod Brushes
 pub mod Once
 pub mod Again

@@ -1,33 +1,34 @@
--- What the tests of paint and stamp promise: steps of the calls, which no reader of their promises needs.
-use Rattle.std.specs.Prelude.{ℕ, List, [], ◌∷◌, take}
-use Rattle.plane.specs.declared.tile.Area.{Area}
-use Rattle.plane.specs.Words.{PictureTable}
-use Rattle.plane.specs.Refusal.{◌unless◌, Lowest}
-use Rattle.paint.specs.Paint.{PaintLengths, paint_refusals, stamp_refusals}
+-- What the steps of paint and stamp promise, for any brush: no reader of their promises needs it.
+use Rattle.std.specs.Prelude.{ℕ, ◌≡◌, List, [], ◌∷◌, ◌++◌, length, replicate}
+use Rattle.plane.specs.Refusal.{◌unless◌, Lowest, Outcome}
+use Rattle.plane.specs.Words.{width, height, kinds, PictureTable}
+use Rattle.brush.specs.declared.brush.Brush.{Brush}
+use Rattle.brush.specs.Brush.{BrushIn, KindsBelow, goal}
+use Rattle.tables.specs.Like.{table_like, HasRoom}
+use Rattle.paint.specs.Paint.{PaintLengths}
 
--- when the words or the working room are no good
-abbrev pub ready_tests : List ℕ → List ℕ → List (ℕ × Type 0)
-ready_tests ws work =
+-- what speaks against a brush, but for want of room
+abbrev pub brush_tests : List ℕ → Brush → List ℕ → List (ℕ × Type 0)
+brush_tests ws b work =
     1 unless PaintLengths ws work
     ∷ 3 unless PictureTable ws
+    ∷ 5 unless KindsBelow b.ink (kinds ws)
+    ∷ 6 unless BrushIn (width ws) (height ws) b
     ∷ []
 
--- the test of the words and the working room
-pub record Readied (ws work : List ℕ) (answer : ℕ) : Type 0 where
-  pub number : Lowest (ready_tests ws work) answer
+-- the tests of a brush
+pub record Tested (ws : List ℕ) (b : Brush) (work : List ℕ) (answer : ℕ) : Type 0 where
+  pub number : Lowest (brush_tests ws b work) answer
 
--- paint's refusals but for the last, want of room
-abbrev pub paint_tests : List ℕ → Area → ℕ → List ℕ → List (ℕ × Type 0)
-paint_tests ws a k work = take 4 (paint_refusals ws a k work)
+-- want of room
+abbrev pub brush_room : List ℕ → Brush → List (ℕ × Type 0)
+brush_room ws b = 7 unless HasRoom ws (goal ws b) ∷ []
 
--- the tests of paint
-pub record PaintTested (ws : List ℕ) (a : Area) (k : ℕ) (work : List ℕ) (answer : ℕ) : Type 0 where
-  pub number : Lowest (paint_tests ws a k work) answer
+-- a brush on the words ws: its number, and the words afterwards
+pub record Brushed (ws : List ℕ) (b : Brush) (work : List ℕ) (answer : ℕ) (after : List ℕ) : Type 0 where
+  pub outcome : Outcome (brush_tests ws b work ++ brush_room ws b) ws (table_like ws (goal ws b)) answer after
 
--- stamp's refusals but for the last
-abbrev pub stamp_tests : List ℕ → Area → List ℕ → List ℕ → List (ℕ × Type 0)
-stamp_tests ws a rows work = take 3 (stamp_refusals ws a rows work)
-
--- the tests of stamp
-pub record StampTested (ws : List ℕ) (a : Area) (rows work : List ℕ) (answer : ℕ) : Type 0 where
-  pub number : Lowest (stamp_tests ws a rows work) answer
+-- the same, and the working room afterwards
+pub record BrushedZero (ws : List ℕ) (b : Brush) (work : List ℕ) (answer : ℕ) (after work_after : List ℕ) : Type 0 where
+  pub brushed : Brushed ws b work answer after
+  pub zero : work_after ≡ replicate (length work) 0

@@ -1,127 +1,86 @@
 // The calls: a table of space, and a table with an area set to a type or to bits. Each tests all that it is lent, and says no by the lowest
 // number that applies; the working room is zero afterwards, whatever the answer.
 ghost use Rattle.plane.specs.Answers.{number};
-ghost use Rattle.plane.specs.Words.{Says};
-ghost use Rattle.paint.specs.Paint.{StampIn, Blanked, PlanePainted, PlaneStamped};
-ghost use Rattle.paint.specs.Steps.{Readied, PaintTested, StampTested};
+ghost use Rattle.paint.specs.Paint.{Blanked, PlanePainted, PlaneStamped};
+ghost use Rattle.paint.specs.Steps.{Tested, Brushed, BrushedZero};
 
-use plane::answer::{Answer, Refusal};
-use plane::area::area_in;
+use brush::brush::{Brush, Ink};
+use plane::answer::Refusal;
 use plane::tile::Area;
 use plane::words::{in_range, room_in, table_length};
-use tables::table::{clear, paint_table, space_table, stamp_table};
-use vet::vet::is_table;
+use tables::table::{clear, paint_over, space_table};
+use vet::vet::vet;
 
 // Makes t the table of a window w by h that is all space.
-pub fn blank(t: &mut [u16], w: u16, h: u16, kinds: u16) -> Answer
+pub fn blank(t: &mut [u16], w: u16, h: u16, kinds: u16) -> Result<(), Refusal>
     ensures { Blanked t.old w h kinds (number result) t.new }
 {
     if !table_length(t.len()) {
-        return Answer::No(Refusal::Lengths);
+        return Err(Refusal::Lengths);
     }
     if !in_range(w, h, kinds) {
-        return Answer::No(Refusal::Sizes);
+        return Err(Refusal::Sizes);
     }
     let room = room_in(t.len());
     space_table(t, w, h, kinds, room);
-    Answer::Done
+    Ok(())
 }
 
-// Is t as long as a table and the working room as long as t (1), and are the words of t a picture's table (3)?
-pub fn ready(t: &[u16], work: &[u16]) -> Answer
-    ensures { Readied t.now work.now (number result) }
+// Is the working room as long as t, and t as long as a table (1), are the words of t a picture's table (3), is the type below T (5), and
+// does the brush fit the window (6)?
+fn test(t: &[u16], b: &Brush, work: &[u16]) -> Result<(), Refusal>
+    ensures { Tested t.now b.now work.now (number result) }
 {
-    if !table_length(t.len()) {
-        return Answer::No(Refusal::Lengths);
-    }
     if work.len() != t.len() {
-        return Answer::No(Refusal::Lengths);
+        return Err(Refusal::Lengths);
     }
-    if !is_table(t, room_in(t.len())) {
-        return Answer::No(Refusal::NoTable);
+    vet(t)?;
+    if !b.ink.is_below(t[3]) {
+        return Err(Refusal::Kind);
     }
-    Answer::Done
+    if !b.lies_in(t[1], t[2]) {
+        return Err(Refusal::Place);
+    }
+    Ok(())
 }
 
-// The same, and is the type below T (5), and the area in the window (6)?
-pub fn paint_tests(t: &[u16], a: Area, kind: u16, work: &[u16]) -> Answer
-    ensures { PaintTested t.now a kind work.now (number result) }
+// Sets the area of a brush, but for clearing the working room.
+fn brush_over(t: &mut [u16], b: &Brush, work: &mut [u16]) -> Result<(), Refusal>
+    ensures { Brushed t.old b.now work.old (number result) t.new }
 {
-    let tested = ready(t, work);
-    if let Answer::No(why) = tested {
-        return Answer::No(why);
-    }
-    if t[3] <= kind {
-        return Answer::No(Refusal::Kind);
-    }
-    if !area_in(t[1], t[2], a) {
-        return Answer::No(Refusal::Place);
-    }
-    Answer::Done
+    test(t, b, work)?;
+    let room = room_in(t.len());
+    paint_over(t, b, work, room).ok_or(Refusal::Full)?;
+    Ok(())
+}
+
+// Sets the area of a brush to its ink. The working room is zero afterwards, whatever the answer.
+fn brush_clear(t: &mut [u16], b: &Brush, work: &mut [u16]) -> Result<(), Refusal>
+    ensures { BrushedZero t.old b.now work.old (number result) t.new work.new }
+{
+    let answer = brush_over(t, b, work);
+    clear(work);
+    answer
 }
 
 // Sets an area of t to a type.
-pub fn paint(t: &mut [u16], a: Area, kind: u16, work: &mut [u16]) -> Answer
+pub fn paint(t: &mut [u16], a: Area, kind: u16, work: &mut [u16]) -> Result<(), Refusal>
     ensures { PlanePainted t.old a kind work.old (number result) t.new work.new }
 {
-    let tested = paint_tests(t, a, kind, work);
-    if let Answer::No(why) = tested {
-        clear(work);
-        return Answer::No(why);
-    }
-    let room = room_in(t.len());
-    let r = paint_table(t, a, kind, work, room);
-    clear(work);
-    if room < r {
-        return Answer::No(Refusal::Full);
-    }
-    Answer::Done
-}
-
-// Is the area in a window w by h, and at most 48 by 48?
-pub fn stamp_in(w: u16, h: u16, a: Area) -> bool
-    ensures { Says result (StampIn w h a) }
-{
-    if !area_in(w, h, a) {
-        return false;
-    }
-    if 48 < a.x2 - a.x1 {
-        return false;
-    }
-    if 48 < a.y2 - a.y1 {
-        return false;
-    }
-    true
-}
-
-// Are words and working room good, and is the area a stamp's (6)?
-pub fn stamp_tests(t: &[u16], a: Area, rows: [u64; 48], work: &[u16]) -> Answer
-    ensures { StampTested t.now a rows work.now (number result) }
-{
-    let tested = ready(t, work);
-    if let Answer::No(why) = tested {
-        return Answer::No(why);
-    }
-    if !stamp_in(t[1], t[2], a) {
-        return Answer::No(Refusal::Place);
-    }
-    Answer::Done
+    let b = Brush {
+        area: a,
+        ink: Ink::Flat(kind),
+    };
+    brush_clear(t, &b, work)
 }
 
 // Sets an area of t, of at most 48 by 48 squares, to bits: bit x - x1 of word y - y1.
-pub fn stamp(t: &mut [u16], a: Area, rows: [u64; 48], work: &mut [u16]) -> Answer
+pub fn stamp(t: &mut [u16], a: Area, rows: [u64; 48], work: &mut [u16]) -> Result<(), Refusal>
     ensures { PlaneStamped t.old a rows work.old (number result) t.new work.new }
 {
-    let tested = stamp_tests(t, a, rows, work);
-    if let Answer::No(why) = tested {
-        clear(work);
-        return Answer::No(why);
-    }
-    let room = room_in(t.len());
-    let r = stamp_table(t, a, rows, work, room);
-    clear(work);
-    if room < r {
-        return Answer::No(Refusal::Full);
-    }
-    Answer::Done
+    let b = Brush {
+        area: a,
+        ink: Ink::Bits(rows),
+    };
+    brush_clear(t, &b, work)
 }
