@@ -7,7 +7,10 @@ use mathlib.Core.Path.{◌≡◌, refl, sym, ◌∙◌, subst}
 use mathlib.Core.Logic.{inl, inr, ⊎_elim}
 use mathlib.Core.List.{List, [], ◌∷◌, ◌++◌, append-nil}
 use borrow.Author.Tests.{eq-eqb, ne_eqb}
+use Rattle.plane.specs.declared.side.Side.{Side}
+use Rattle.plane.specs.declared.side.Side.TheVariants.{Left, Bottom, Right, Top}
 use Rattle.plane.specs.declared.tile.Tile.{Tile}
+use Rattle.plane.specs.Sides.{side_number, side_start, side_end}
 use Rattle.plane.specs.Picture.{joined, starts, before}
 use Rattle.plane.specs.Words.{count, width, height, word, tile_of, number_at}
 use Rattle.plane.specs.Plane.{Names, Plane}
@@ -18,29 +21,24 @@ use Rattle.plane.proofs.Basics.{lt_or_ge}
 use Rattle.plane.proofs.Listings.{listed_none}
 use Rattle.plane.proofs.ToTable.{named, outside}
 
--- ---- one place lower
-pub before_some : (x : ℕ) → 0 < x → x - 1 ≡ before x (λ i. i)
-unfolding before
-before_some zero u = absurd (omega arith)
-before_some (suc x) u = omega arith
+-- ---- a side that is named
+pub length_is : (t : Tile) (s : Side) → side_end t s - side_start t s ≡ side_length t (side_number s)
+length_is t Left = refl
+length_is t Bottom = refl
+length_is t Right = refl
+length_is t Top = refl
 
-pub before_none : (x : ℕ) → x ≤ 0 → 65535 ≡ before x (λ i. i)
-unfolding before
-before_none zero u = refl
-before_none (suc x) u = absurd (omega arith)
+pub four_sides : (s : Side) → side_number s < 4
+four_sides Left = omega arith
+four_sides Bottom = omega arith
+four_sides Right = omega arith
+four_sides Top = omega arith
 
--- ---- a side that is neither left nor right
-pub length_across : (t : Tile) (s : ℕ) → (s ≡ 0 → ⊥) → (s ≡ 2 → ⊥) → side_length t s ≡ t.right - t.left
-length_across t zero a b = absurd (a refl)
-length_across t (suc zero) a b = refl
-length_across t (suc (suc zero)) a b = absurd (b refl)
-length_across t (suc (suc (suc s))) a b = refl
-
-pub reach_across : (t u : Tile) (s : ℕ) → (s ≡ 0 → ⊥) → (s ≡ 2 → ⊥) → reach_along t s u ≡ u.right - t.left
-reach_across t u zero a b = absurd (a refl)
-reach_across t u (suc zero) a b = refl
-reach_across t u (suc (suc zero)) a b = absurd (b refl)
-reach_across t u (suc (suc (suc s))) a b = refl
+pub reach_is : (t u : Tile) (s : Side) → side_end u s - side_start t s ≡ reach_along t (side_number s) u
+reach_is t u Left = refl
+reach_is t u Bottom = refl
+reach_is t u Right = refl
+reach_is t u Top = refl
 
 -- ---- rows of runs
 starts_new : (f : ℕ → ℕ) (j : ℕ) → (0 < j → f (j - 1) ≡ f j → ⊥) → starts f j ≡ true
@@ -125,11 +123,11 @@ module _ {ws : List ℕ} (P : Plane ws) where
     side_held (suc (suc zero)) j q n a b = up_held (word ws i 1) j q n a b
     side_held (suc (suc (suc s))) j q n a b = on_held (word ws i 0) j q n a b
 
-    side_end : (s j : ℕ) {k : ℕ} (q : ℕ) → Names ws k (square_beside (tile_of ws i) s j).x (square_beside (tile_of ws i) s j).y → reach_along (tile_of ws i) s (tile_of ws k) ≤ q → q < side_length (tile_of ws i) s → along_side ws (tile_of ws i) s q ≡ k → ⊥
-    side_end zero j q n a b = let g = P.boxes.box i u in up_end (word ws i 1) j q n a (omega arith)
-    side_end (suc zero) j q n a b = let g = P.boxes.box i u in on_end (word ws i 0) j q n a (omega arith)
-    side_end (suc (suc zero)) j q n a b = let g = P.boxes.box i u in up_end (word ws i 1) j q n a (omega arith)
-    side_end (suc (suc (suc s))) j q n a b = let g = P.boxes.box i u in on_end (word ws i 0) j q n a (omega arith)
+    side_stops : (s j : ℕ) {k : ℕ} (q : ℕ) → Names ws k (square_beside (tile_of ws i) s j).x (square_beside (tile_of ws i) s j).y → reach_along (tile_of ws i) s (tile_of ws k) ≤ q → q < side_length (tile_of ws i) s → along_side ws (tile_of ws i) s q ≡ k → ⊥
+    side_stops zero j q n a b = let g = P.boxes.box i u in up_end (word ws i 1) j q n a (omega arith)
+    side_stops (suc zero) j q n a b = let g = P.boxes.box i u in on_end (word ws i 0) j q n a (omega arith)
+    side_stops (suc (suc zero)) j q n a b = let g = P.boxes.box i u in up_end (word ws i 1) j q n a (omega arith)
+    side_stops (suc (suc (suc s))) j q n a b = let g = P.boxes.box i u in on_end (word ws i 0) j q n a (omega arith)
 
     side_out : (s j q : ℕ) → j < side_length (tile_of ws i) s → (SquareIn (width ws) (height ws) (square_beside (tile_of ws i) s j).x (square_beside (tile_of ws i) s j).y → ⊥) → along_side ws (tile_of ws i) s q ≡ 65535
     side_out zero j q a f = let g = P.boxes.box i u in up_out (before (word ws i 0) (λ x. x)) (word ws i 1) j q (omega arith) f
@@ -173,7 +171,7 @@ module _ {ws : List ℕ} (P : Plane ws) (fits : count ws ≤ 65535) {i s most : 
       record {
         counted = n.counted;
         few = omega (arith, A.few);
-        fresh = λ b. starts_new f z (λ v g. side_end P u s j z n (omega arith) b (sym g ∙ side_held P u s j (z - 1) n (omega arith) (omega arith)));
+        fresh = λ b. starts_new f z (λ v g. side_stops P u s j z n (omega arith) b (sym g ∙ side_held P u s j (z - 1) n (omega arith) (omega arith)));
         listed = rw lists (L.step (joined j (new_at f)) out (rw from at A.listed));
       }
 

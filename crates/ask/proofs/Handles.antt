@@ -33,7 +33,7 @@ use Rattle.plane.specs.Words.{width, height}
 use Rattle.ask.specs.declared.handle.Handle.{Handle}
 use Rattle.ask.specs.contracts.handle.Handle as T
 use Rattle.ask.proofs.handle.Handle.TheLaws as T'
-use Rattle.ask.specs.contracts.handle.handle_of as handle-of
+use Rattle.ask.specs.contracts.handle.Handle.of as handle-of
 
 -- the machine value of a slice
 abbrev pub lies : Bor (List ℕ) → Val

@@ -1,6 +1,7 @@
 // Is a slice of words a table? Linear in its tiles, with no working room: the tiles one by one (tiles.rt), then together (frames.rt).
 ghost use Rattle.std.specs.Prelude.{◌≡◌, ◌+◌, ◌*◌, length, IfOk};
 ghost use Rattle.plane.specs.Answers.{number};
+ghost use Rattle.plane.specs.Plane.{Plane};
 ghost use Rattle.plane.specs.Words.{Says, IsTable};
 ghost use Rattle.vet.specs.Vet.{Vetted, SizedRight};
 
@@ -27,7 +28,7 @@ pub fn is_table(t: &[u16], room: usize) -> bool
 #[tactic(auto, using(plane::proofs::FromTable::table_plane))]
 pub fn tested<'a>(t: &'a [u16]) -> Result<Table<'a>, Refusal>
     ensures answer { Vetted t.now (number result) }
-    ensures table { IfOk result (λ b. b ≡ t.now) }
+    ensures table { IfOk result (λ b. (b ≡ t.now) × Plane b) }
 {
     if !table_length(t.len()) {
         return Err(Refusal::Lengths);
@@ -41,7 +42,7 @@ pub fn tested<'a>(t: &'a [u16]) -> Result<Table<'a>, Refusal>
 // The same, if the window is w by h too.
 pub fn tested_size<'a>(t: &'a [u16], w: u16, h: u16) -> Result<Table<'a>, Refusal>
     ensures answer { SizedRight t.now w h (number result) }
-    ensures table { IfOk result (λ b. b ≡ t.now) }
+    ensures table { IfOk result (λ b. (b ≡ t.now) × Plane b) }
 {
     let table = tested(t)?;
     if table.width() != w || table.height() != h {
