@@ -3,9 +3,10 @@ use Prim.Native.Nat.{ℕ, zero, suc, ◌+◌, ◌-◌, ◌*◌, ◌≤◌, ◌<�
 use native.Mathlib.Omega.{arith}
 use mathlib.Core.Bool.{Bool, true, cond}
 use mathlib.Core.Path.{◌≡◌, refl, sym, ◌∙◌, ap, subst}
-use mathlib.Core.Logic.{⊎_elim}
 use mathlib.Core.List.{List}
 use lib.Dec.{leb}
+use Rattle.std.specs.Prelude.{Option, Some, None}
+use Rattle.std.specs.Option.{is_some}
 use lib.ListN.{length, get_or, replicate, length-replicate}
 use lib.Pow.{pow_pos, shr_le}
 use borrow.Author.Tests.{le-leb, lt-leb}
@@ -14,7 +15,6 @@ use Rattle.plane.specs.Area.{AreaIn}
 use Rattle.plane.specs.Picture.{Picture, bit_of, stamped, table, tiles, written}
 use Rattle.plane.specs.Plane.{Plane}
 use Rattle.plane.specs.Words.{IsTable, count, height, kinds, picture_of, room_in, width}
-use Rattle.plane.proofs.Basics.{lt_or_ge}
 use Rattle.plane.proofs.FromTable.{table_plane, tiles_agree}
 use Rattle.plane.proofs.Tables.{written_count}
 use Rattle.brush.specs.Brush.{Small}
@@ -59,11 +59,9 @@ calm_rows {ms} {rules} {used} {k} {bx} {by} K C = record {
 
 -- ---- tables and pictures
 -- a table painted over where it has room
-pub remade : {c r : ℕ} {ws vs : List ℕ} {a : Area} {q : Picture} → Paintable c ws a → PaintedOver c ws q vs r → Remade ws q (leb r c) vs
-remade {c} {r} {ws} {vs} {q = q} T P = ⊎_elim
-    (λ (u : c < r). rw (lt-leb r c u) (record { fits = sym (lt-leb (length (tiles (width ws) (height ws) q)) (room_in (length ws)) (omega (arith, P.full u, paintable_room T))); leaves = P.stays u }))
-    (λ (u : r ≤ c). rw (le-leb r c u) (record { fits = sym (le-leb (length (tiles (width ws) (height ws) q)) (room_in (length ws)) (omega (arith, P.number u, paintable_room T))); leaves = made (paintable_room T) P u }))
-    (lt_or_ge c r)
+pub remade : {c : ℕ} {ws : List ℕ} {a : Area} {q : Picture} (vs : List ℕ) (r : Option ℕ) → Paintable c ws a → PaintedOver c ws q vs r → Remade ws q (is_some r) vs
+remade {c} {ws} {a} {q} vs (Some n) T P = record { fits = sym (le-leb (length (tiles (width ws) (height ws) q)) (room_in (length ws)) (omega (arith, P.number, P.room, paintable_room T))); leaves = made (paintable_room T) P }
+remade {c} {ws} {a} {q} vs None T P = record { fits = sym (lt-leb (length (tiles (width ws) (height ws) q)) (room_in (length ws)) (omega (arith, P.full, paintable_room T))); leaves = P.stays }
 
 -- a table has its picture's tiles
 pub count_tiles : {c : ℕ} {ws : List ℕ} → IsTable c ws → count ws ≡ length (tiles (width ws) (height ws) (picture_of ws))

@@ -14,18 +14,19 @@ use piece::rows::{near_area, piece_rows};
 use piece::shown::shows_rows;
 use plane::tile::Area;
 use plane::words::room_in;
-use rules::list::halo_of;
+use rules::list::RuleList;
 use tables::table::{paint_table, stamp_table};
+use waits::block::Block;
 
-// The marks of the squares within k of the block, k being the halo. Where all is of one type there are none, which takes one look.
-fn near_marks(material: &[u16], rules: &[u16], used: usize, bx: u16, by: u16, k: u16) -> [u64; 48]
-    requires { Checkable material.now rules.now used k bx by }
-    ensures { PieceRows (width material.now) (height material.now) (picture_of material.now) (rules_of rules.now used) k bx by result }
+// The marks of the squares within k of the piece, k being the halo. Where all is of one type there are none, which takes one look.
+fn near_marks(material: &[u16], rules: RuleList<'_>, piece: Block, k: u16) -> [u64; 48]
+    requires { Checkable material.now rules.words.now rules.used k piece.x piece.y }
+    ensures { PieceRows (width material.now) (height material.now) (picture_of material.now) (rules_of rules.entry.words.now rules.entry.used) k piece.x piece.y result }
 {
-    if calm(material, bx, by, k) {
+    if calm(material, piece, k) {
         return [0u64; 48];
     }
-    piece_rows(material, rules, used, bx, by, k)
+    piece_rows(material, rules, piece, k)
 }
 
 // Marks the errors of the area near; false, with errors as they were, where they have no room.
@@ -40,7 +41,7 @@ fn mark_errors(
     requires small { (Small near) × (length work.old ≡ length errors.old) }
     ensures { Remade errors.old (stamped (picture_of errors.old) near rows) result errors.new }
 {
-    stamp_table(errors, near, rows, work, room) <= room
+    stamp_table(errors, near, rows, work, room).is_some()
 }
 
 // The block waits no more; false, with waiting as it was, where it has no room.
@@ -49,28 +50,26 @@ pub fn end_waiting(waiting: &mut [u16], block: Area, work: &mut [u16], room: usi
     requires waiting_value { (kinds waiting.old ≡ 2) × (length work.old ≡ length waiting.old) }
     ensures { Remade waiting.old (painted (picture_of waiting.old) block 0) result waiting.new }
 {
-    paint_table(waiting, block, 0, work, room) <= room
+    paint_table(waiting, block, 0, work, room).is_some()
 }
 
-// Marks the errors of the piece at column bx, row by; false, with errors as they were, where they have no room. Where its marks are
-// recorded already, most often by the pieces beside it, it leaves them alone.
+// Marks the errors of the piece; false, with errors as they were, where they have no room. Where its marks are recorded already, most
+// often by the pieces beside it, it leaves them alone.
 #[tactic(auto, using(crate::proofs::MarkErrors::kept_words, crate::proofs::MarkErrors::kept_room))]
 pub fn remark(
     material: &[u16],
     errors: &mut [u16],
     work: &mut [u16],
-    rules: &[u16],
-    used: usize,
-    bx: u16,
-    by: u16,
+    rules: RuleList<'_>,
+    piece: Block,
 ) -> bool
-    requires { MarkIn material.now errors.old work.old rules.now used bx by }
-    ensures { Remade errors.old (errors_near material.now errors.old rules.now used bx by) result errors.new }
+    requires { MarkIn material.now errors.old work.old rules.words.now rules.used piece.x piece.y }
+    ensures { Remade errors.old (errors_near material.now errors.old rules.entry.words.now rules.entry.used piece.x piece.y) result errors.new }
 {
-    let k = halo_of(rules, used);
-    let near = near_area(material[1], material[2], bx, by, k);
-    let rows = near_marks(material, rules, used, bx, by, k);
-    if shows_rows(errors, near, rows) {
+    let k = rules.halo();
+    let near = near_area(material[1], material[2], piece, k);
+    let rows = near_marks(material, rules, piece, k);
+    if shows_rows(errors, near, &rows) {
         return true;
     }
     mark_errors(errors, near, rows, work, room_in(material.len()))

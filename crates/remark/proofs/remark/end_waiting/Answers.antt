@@ -3,4 +3,4 @@ use Rattle.remark.proofs.MarkErrors.{remade}
 use Rattle.remark.proofs.remark.end_waiting.Goals as goal
 
 pub returns : goal.returns
-returns c = remade c.requires.paintable c.paint_table.ensures
+returns c = rw c.is_some.ensures (remade _ c.paint_table.result c.requires.paintable c.paint_table.ensures)

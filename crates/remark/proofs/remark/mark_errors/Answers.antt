@@ -3,4 +3,4 @@ use Rattle.remark.proofs.MarkErrors.{remade}
 use Rattle.remark.proofs.remark.mark_errors.Goals as goal
 
 pub returns : goal.returns
-returns c = remade c.requires.paintable c.stamp_table.ensures
+returns c = rw c.is_some.ensures (remade _ c.stamp_table.result c.requires.paintable c.stamp_table.ensures)
