@@ -13,6 +13,7 @@ use Rattle.rules.specs.declared.rule.Rule.{Rule}
 use Rattle.rules.specs.Some.{some}
 use Rattle.rules.specs.Words.{rule_at}
 use Rattle.rules.proofs.Searches.{same_truth, some_at, some_has}
+use Rattle.edges.specs.declared.cells.Chains.{Chains}
 use Rattle.edges.specs.declared.turn.Turn.{Turn}
 use Rattle.edges.specs.Chains.{cell, cell_at, NextOf, Chained, Linked}
 use Rattle.edges.specs.Edge.{Marked, Steps}
@@ -38,18 +39,20 @@ other_cell a b r n = record {
 }
 
 -- ---- making the chains
-pub chains_none : (ws : List ℕ) (n : ℕ) → n ≤ 512 → Chained ws n n (replicate 768 65535)
+pub chains_none : (ws : List ℕ) (n : ℕ) → n ≤ 512 → Chained ws n n (record { first = replicate 256 65535; next = replicate 512 65535 })
 chains_none ws n u = record {
-  long = length-replicate {A = ℕ} 768 65535;
-  first = λ k l. let e = get_or-replicate {A = ℕ} 768 k 65535 0 (omega arith) in record { low = omega (arith, e); own = λ o. absurd (omega (arith, e)); none = λ j a b c. absurd (omega arith) };
+  cells = length-replicate {A = ℕ} 256 65535;
+  places = length-replicate {A = ℕ} 512 65535;
+  first = λ k l. let e = get_or-replicate {A = ℕ} 256 k 65535 0 l in record { low = omega (arith, e); own = λ o. absurd (omega (arith, e)); none = λ j a b c. absurd (omega arith) };
   next = λ j a b. absurd (omega arith);
 }
 
-pub chains_more : {ws cs ds : List ℕ} {n i : ℕ} → i < n → n ≤ 512 → Chained ws n (i + 1) cs → Linked ws i cs ds → Chained ws n i ds
-chains_more {ws} {cs} {ds} {n} {i} u few C e = record {
-  long = ap length e ∙ (length-set mid k i ∙ (length-set cs (256 + i) (get_or cs k 0) ∙ C.long));
-  first = λ c l. first c l (ℕ_discrete c k);
-  next = λ j a b. next j a b (ℕ_discrete j i);
+pub chains_more : {ws : List ℕ} {c d : Chains} {n i : ℕ} → i < n → n ≤ 512 → Chained ws n (i + 1) c → Linked ws i c d → Chained ws n i d
+chains_more {ws} {c} {d} {n} {i} u few C e = record {
+  cells = ap length e.first ∙ (length-set c.first k i ∙ C.cells);
+  places = ap length e.next ∙ (length-set c.next i (get_or c.first k 0) ∙ C.places);
+  first = λ j l. rw e.first (first j l (ℕ_discrete j k));
+  next = λ j a b. rw e.next (next j a b (ℕ_discrete j i));
 }
   where
     k : ℕ
@@ -58,42 +61,29 @@ chains_more {ws} {cs} {ds} {n} {i} u few C e = record {
     small : k < 256
     small = cell_small (rule_at ws i).type1 (rule_at ws i).type2
 
-    mid : List ℕ
-    mid = set cs (256 + i) (get_or cs k 0)
-
-    -- the places after the two stores
-    at_cell : get_or ds k 0 ≡ i
-    at_cell = ap (λ (l : List ℕ). get_or l k 0) e ∙ get_or-set_same mid k i 0 (omega (arith, length-set cs (256 + i) (get_or cs k 0), C.long, small))
-
-    at_rule : get_or ds (256 + i) 0 ≡ get_or cs k 0
-    at_rule = ap (λ (l : List ℕ). get_or l (256 + i) 0) e ∙ (get_or-set_other mid k (256 + i) i 0 (λ f. omega (arith, small)) ∙ get_or-set_same cs (256 + i) (get_or cs k 0) 0 (omega (arith, C.long)))
-
-    at_other : (m : ℕ) → (m ≡ k → ⊥) → (m ≡ 256 + i → ⊥) → get_or ds m 0 ≡ get_or cs m 0
-    at_other m f g = ap (λ (l : List ℕ). get_or l m 0) e ∙ (get_or-set_other mid k m i 0 f ∙ get_or-set_other cs (256 + i) m (get_or cs k 0) 0 g)
-
-    first : (c : ℕ) → c < 256 → Dec (c ≡ k) → NextOf ws n c i (get_or ds c 0)
-    first c l (yes f) = rw (f, at_cell) (record { low = omega arith; own = λ o. refl; none = λ j a b. absurd (omega arith) })
-    first c l (no f) = rw (at_other c f (λ g. omega arith)) (let N = C.first c l in record {
+    first : (j : ℕ) → j < 256 → Dec (j ≡ k) → NextOf ws n j i (get_or (set c.first k i) j 0)
+    first j l (yes f) = rw (f, get_or-set_same c.first k i 0 (omega (arith, small, C.cells))) (record { low = omega arith; own = λ o. refl; none = λ j a b. absurd (omega arith) })
+    first j l (no f) = rw (get_or-set_other c.first k j i 0 f) (let N = C.first j l in record {
       low = omega (arith, N.low);
       own = N.own;
-      none = λ j a b o h. ⊎_elim (λ (v : i < j). N.none j (omega arith) b o h) (λ (v : j ≤ i). let g : j ≡ i = omega arith in f (sym h ∙ ap (cell_at ws) g)) (lt_or_ge i j);
+      none = λ m a b o h. ⊎_elim (λ (v : i < m). N.none m (omega arith) b o h) (λ (v : m ≤ i). let g : m ≡ i = omega arith in f (sym h ∙ ap (cell_at ws) g)) (lt_or_ge i m);
     })
 
-    next : (j : ℕ) → i ≤ j → j < n → Dec (j ≡ i) → NextOf ws n (cell_at ws j) (j + 1) (get_or ds (256 + j) 0)
-    next j a b (yes f) = rw (f, at_rule) (C.first k small)
-    next j a b (no f) = rw (at_other (256 + j) (λ g. omega (arith, small)) (λ g. f (omega arith))) (C.next j (omega (arith, f)) b)
+    next : (j : ℕ) → i ≤ j → j < n → Dec (j ≡ i) → NextOf ws n (cell_at ws j) (j + 1) (get_or (set c.next i (get_or c.first k 0)) j 0)
+    next j a b (yes f) = rw (f, get_or-set_same c.next i (get_or c.first k 0) 0 (omega (arith, C.places))) (C.first k small)
+    next j a b (no f) = rw (get_or-set_other c.next i j (get_or c.first k 0) 0 f) (C.next j (omega (arith, f)) b)
 
 -- the same from the rule after
-pub chains_down : {ws cs ds : List ℕ} {n j : ℕ} → 0 < j → j ≤ n → n ≤ 512 → Chained ws n j cs → Linked ws (j - 1) cs ds → Chained ws n (j - 1) ds
+pub chains_down : {ws : List ℕ} {c d : Chains} {n j : ℕ} → 0 < j → j ≤ n → n ≤ 512 → Chained ws n j c → Linked ws (j - 1) c d → Chained ws n (j - 1) d
 chains_down {j = j} u v few C e = let f : j ≡ j - 1 + 1 = omega arith in chains_more (omega arith) few (rw f at C) e
 
 -- ---- going along a chain
 -- where it begins, and where it goes on
-module _ {ws cs : List ℕ} {n : ℕ} (C : Chained ws n 0 cs) where
-  pub first_of : {k r : ℕ} (a b : ℕ) → k ≡ cell a b → r ≡ get_or cs k 0 → NextOf ws n (cell a b) 0 r
+module _ {ws : List ℕ} {c : Chains} {n : ℕ} (C : Chained ws n 0 c) where
+  pub first_of : {k r : ℕ} (a b : ℕ) → k ≡ cell a b → r ≡ get_or c.first k 0 → NextOf ws n (cell a b) 0 r
   first_of a b e f = rw (f, e) (C.first (cell a b) (cell_small a b))
 
-  pub next_of : {r : ℕ} (i : ℕ) → i < n → r ≡ get_or cs (256 + i) 0 → NextOf ws n (cell_at ws i) (i + 1) r
+  pub next_of : {r : ℕ} (i : ℕ) → i < n → r ≡ get_or c.next i 0 → NextOf ws n (cell_at ws i) (i + 1) r
   next_of i u f = rw f (C.next i (omega arith) u)
 
 -- rules that mark nothing are passed

@@ -1,6 +1,7 @@
 -- The rules by their pairs of types: a step between the code and what the rules forbid.
 use Rattle.std.specs.Prelude.{ℕ, ◌+◌, ◌*◌, ◌%◌, ◌<◌, ◌≤◌, min, max, List, ◌≡◌, length, get_or, set}
 use Rattle.rules.specs.Words.{rule_at}
+use Rattle.edges.specs.declared.cells.Chains.{Chains}
 
 -- the cell of a pair of types, whichever comes first
 unfoldable pub cell : ℕ → ℕ → ℕ
@@ -17,11 +18,13 @@ pub record NextOf (ws : List ℕ) (n k from r : ℕ) : Type 0 where
   pub none : (j : ℕ) → from ≤ j → j < r → j < n → cell_at ws j ≡ k → ⊥
 
 -- the rules from i up to n by cells: the first of each, and after each rule the next of its own
-pub record Chained (ws : List ℕ) (n i : ℕ) (cs : List ℕ) : Type 0 where
-  pub long : length cs ≡ 768
-  pub first : (k : ℕ) → k < 256 → NextOf ws n k i (get_or cs k 0)
-  pub next : (j : ℕ) → i ≤ j → j < n → NextOf ws n (cell_at ws j) (j + 1) (get_or cs (256 + j) 0)
+pub record Chained (ws : List ℕ) (n i : ℕ) (c : Chains) : Type 0 where
+  pub cells : length c.first ≡ 256
+  pub places : length c.next ≡ 512
+  pub first : (k : ℕ) → k < 256 → NextOf ws n k i (get_or c.first k 0)
+  pub next : (j : ℕ) → i ≤ j → j < n → NextOf ws n (cell_at ws j) (j + 1) (get_or c.next j 0)
 
 -- rule i stands before the others of its cell
-abbrev pub Linked : List ℕ → ℕ → List ℕ → List ℕ → Type 0
-Linked ws i cs ds = ds ≡ set (set cs (256 + i) (get_or cs (cell_at ws i) 0)) (cell_at ws i) i
+pub record Linked (ws : List ℕ) (i : ℕ) (c d : Chains) : Type 0 where
+  pub first : d.first ≡ set c.first (cell_at ws i) i
+  pub next : d.next ≡ set c.next i (get_or c.first (cell_at ws i) 0)

@@ -1,6 +1,7 @@
 // The edges of a local picture, and what the rules forbid from each.
 #![tactic(auto)]
 
+mod cells;
 mod edge;
 pub mod near;
 pub mod turn;

@@ -1,46 +1,15 @@
 // Marks from the edges of a local picture, each found once: the rules of its pair of types, in the directions that they have.
-ghost use Rattle.std.specs.Prelude.{true, ◌≡◌, ◌+◌, ◌-◌, ◌*◌, ◌≤◌, ◌<◌, length};
+ghost use Rattle.std.specs.Prelude.{true, ◌≡◌, ◌+◌, ◌*◌, ◌≤◌, ◌<◌};
 ghost use Rattle.rules.specs.Words.{rule_at};
-ghost use Rattle.edges.specs.Chains.{cell, Linked, Chained};
 ghost use Rattle.edges.specs.Edge.{Marked, Local};
 ghost use Rattle.edges.specs.Near.{Ruled, Between, faces, hit_from, across, across_all, edges_at, edges_to, edges_over, Still, sweeps};
 
+use crate::cells::{Chains, cell_of};
 use crate::edge::Picture;
 use crate::turn::{Crossing, Side, Turn};
 use rules::list::RuleList;
 use rules::rule::Rule;
 use std::marker::Model;
-
-// The cell of a pair of types, whichever of them comes first. Two pairs may share one: that costs time only.
-#[tactic(auto, unfolding(crate::specs::Chains::cell))]
-fn cell_of(a: u16, b: u16) -> usize
-    ensures { (result ≡ cell a b) × (result < 256) }
-{
-    (16 * usize::from(a.min(b)) + usize::from(a.max(b))) % 256
-}
-
-// Puts rule i before the others of its cell.
-#[tactic(auto, unfolding(rules::specs::Words::rule_at))]
-fn chain_rule(rules: RuleList<'_>, chains: &mut [u16; 768], i: usize)
-    requires { (8 * i + 8 ≤ length rules.words.now) × (i < 512) }
-    ensures { Linked rules.entry.words.now i chains.old chains.new }
-{
-    let k = cell_of(rules.words[8 * i], rules.words[8 * i + 1]);
-    chains[256 + i] = chains[k];
-    chains[k] = i as u16;
-}
-
-// The rules by cells: place k has the first rule of cell k, and place 256 + i the next of rule i's cell; 65535 where there is none.
-fn chain_rules(rules: RuleList<'_>) -> [u16; 768]
-    requires { (8 * rules.used ≤ length rules.words.now) × (rules.used ≤ 512) }
-    ensures { Chained rules.entry.words.now rules.entry.used 0 result }
-{
-    let mut chains = [65535u16; 768];
-    for i in (0..rules.used).rev() {
-        chain_rule(rules, &mut chains, i);
-    }
-    chains
-}
 
 // Does the rule go between types a and b: from b to a, or back if it is fourway?
 fn faces(r: Rule, a: u16, b: u16) -> bool
@@ -49,12 +18,12 @@ fn faces(r: Rule, a: u16, b: u16) -> bool
     r.type1 == b && r.type2 == a || r.type1 == a && r.type2 == b && r.fourway != 0
 }
 
-// A local picture and the rules that are looked for in it, chained by cells. A contract sees a Marker as the picture's types and the list.
+// A local picture and the rules that are looked for in it, chained by the cells of their types. A contract sees a Marker as the picture's types and the list.
 #[derive(Drop)]
 struct Marker<'a> {
     picture: Picture<'a>,
     rules: RuleList<'a>,
-    chains: &'a [u16; 768],
+    chains: &'a Chains,
 }
 
 impl<'a> Model for Marker<'a> {
@@ -111,11 +80,11 @@ impl<'a> Marker<'a> {
         requires { Between self.now.kinds s.turn s.at a b }
         ensures { Marked (across_all self.now.kinds self.now.words self.now.used s.turn s.at) marks.old marks.new }
     {
-        let mut i = usize::from(self.chains[cell_of(a, b)]);
+        let mut i = usize::from(self.chains.first[cell_of(a, b)]);
         // A while loop: the step is to the next rule of the cell.
         while i < self.rules.used {
             self.mark_nth(marks, i, s, a, b);
-            i = usize::from(self.chains[256 + i]);
+            i = usize::from(self.chains.next[i]);
         }
     }
 
@@ -187,7 +156,7 @@ pub fn mark_near(
     requires { Local kinds.now marks.old × Ruled rules.words.now rules.used × Still kinds.now lo hi }
     ensures { Marked (sweeps kinds.now rules.entry.words.now rules.entry.used) marks.old marks.new }
 {
-    let chains = chain_rules(rules);
+    let chains = Chains::of(rules);
     let marker = Marker {
         picture: Picture::of(kinds),
         rules,
