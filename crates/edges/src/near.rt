@@ -145,7 +145,8 @@ impl<'a> Marker<'a> {
     }
 }
 
-// Marks what the used rules forbid, all ways, on a picture with no edge outside columns and rows lo up to hi.
+// Marks what the used rules forbid, all ways, on a picture with no edge outside columns and rows lo up to hi. A mark is the byte 1, and no
+// bool, since the clause tells what becomes of any bytes that are lent for marks.
 pub fn mark_near(
     kinds: &[u8; 6724],
     marks: &mut [u8; 6724],

@@ -1,30 +1,28 @@
 -- A calm piece has no error squares within the halo of its block: from there the rules see nothing but one type, and so no edge.
 use Prim.Native.Nat.{ℕ, ◌+◌, ◌-◌, ◌*◌, ◌<◌, ◌≤◌, min}
 use native.Mathlib.Omega.{arith}
-use mathlib.Core.Bool.{Bool, true, false, not, cond, ◌&&◌, and-false}
+use mathlib.Core.Bool.{Bool, true, false, not, ◌&&◌, and-false}
 use mathlib.Core.List.{List, [], ◌∷◌}
 use mathlib.Core.Path.{◌≡◌, refl, sym, ◌∙◌, ap}
 use Rattle.plane.specs.declared.tile.Tile.{Tile}
 use Rattle.plane.specs.declared.tile.Area.{Area}
-use Rattle.plane.specs.Picture.{Picture, area, in_area, painted}
-use Rattle.plane.specs.Words.{count, width, height, kinds, word, tile_of, picture_of, Says}
+use Rattle.plane.specs.Picture.{Picture, area, in_area}
+use Rattle.plane.specs.Words.{count, width, height, word, tile_of, picture_of, Says}
 use Rattle.plane.specs.Plane.{Plane}
 use Rattle.plane.proofs.Basics.{tf}
 use Rattle.plane.proofs.ToTable.{shown}
 use Rattle.rules.specs.declared.rule.Rule.{Rule}
 use Rattle.rules.specs.Some.{Every}
 use Rattle.rules.specs.Sets.{member}
-use Rattle.rules.specs.Words.{rules_of, Reaches, Apart}
+use Rattle.rules.specs.Words.{Reaches, Apart}
 use Rattle.rules.specs.Forbid.{back_x, back_y, kind_at, outside, seen, reached, ways, forbids, forbidden}
 use Rattle.rules.proofs.Searches.{some_of_none, every_all}
 use Rattle.rules.proofs.Local.{Agree, forbids_local}
 use Rattle.rules.proofs.Window.{within, area_of, near}
 use Rattle.rules.proofs.Blank.{reached_none}
-use Rattle.rules.proofs.Vetted.{all_apart}
-use Rattle.piece.specs.Remark.{near_block, full_mark, remarked, near_area, Checkable}
+use Rattle.piece.specs.Remark.{near_block, near_area}
 use Rattle.piece.specs.Calm.{Calm, Covers, Interior}
 use Rattle.piece.proofs.Cuts.{window, kind_at_in, kind_at_out}
-use Rattle.piece.proofs.Remarks.{halo_in, rules_near, near_same}
 
 -- ---- one tile
 -- the code's test of the tile
@@ -103,14 +101,3 @@ module _ {w h : ℕ} {p : Picture} {k bx by : ℕ} (C : Calm w h p k bx by) (sma
   calm_free rs far ok =
       some_of_none (λ r. Reaches k r × Apart r) rs (forbids (seen w h p x y)) (every_both (Reaches k) Apart rs far ok)
       (λ r o. forbids_local k r (seen w h p x y) (λ a e i j. C.kind) calm_seen o.0.0 o.0.1 ∙ plain_free C.kind r o.1)
-
--- a check of a calm piece clears the squares near its block
-pub calm_remarked : {ws rules : List ℕ} {used k bx by : ℕ} → Checkable ws rules used k bx by → Calm (width ws) (height ws) (picture_of ws) k bx by → (e : Picture) (x y : ℕ) → x < width ws → y < height ws
-    → painted e (near_area (width ws) (height ws) k bx by) 0 x y ≡ remarked (width ws) (height ws) (picture_of ws) (rules_of rules used) k bx by e x y
-unfolding painted remarked
-calm_remarked {ws} {rules} {used} {k} {bx} {by} K C e x y lx ly =
-    ap (λ b. cond b 0 (e x y)) (near_same (width ws) (height ws) k bx by x y lx ly) ∙ go (near_block k bx by x y) refl
-  where
-    go : (b : Bool) → near_block k bx by x y ≡ b → cond b 0 (e x y) ≡ cond b (full_mark (width ws) (height ws) (picture_of ws) (rules_of rules used) x y) (e x y)
-    go true i = sym (ap (λ b. cond b 1 0) (calm_free C (halo_in K) x y i (rules_of rules used) (rules_near K) (all_apart rules used (kinds ws) K.sound)))
-    go false i = refl

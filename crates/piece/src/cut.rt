@@ -49,7 +49,8 @@ fn cut_row(kinds: &mut [u8; 6724], table: &Table<'_>, i: u16, a: Area, block: Bl
     let mut top = a.y2;
     let mut x = a.x1;
     let mut tile = i;
-    // A while loop: the step is to the end of the tile found, not to the next column.
+    // A while loop: the step is to the end of the tile found, not to the next column. The loop of row_shown shares that step, run_at, and no more:
+    // a walk that took the rest as a closure would need a longer contract than the loop, on what the closure has changed.
     while x < a.x2 {
         let run = run_at(table, tile, x, y, a.x2);
         fill(
