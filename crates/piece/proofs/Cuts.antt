@@ -86,13 +86,13 @@ module _ {ws : List ℕ} (P : Plane ws) {bx by x1 y x2 y2 : ℕ} (C : Cuttable (
       go x' z a b u v (inr s) = held x' z s b u (omega arith) ∙ sym (held x' y s b (omega arith) N.held.to_top)
 
 -- and fills its part of the row
-pub row_more : {ws : List ℕ} {bx by x1 y x2 y2 x top n u v z : ℕ} {r : Run} {m m₁ m₂ : List ℕ} → Plane ws → Cuttable (width ws) (height ws) bx by (area x1 y x2 y2)
+pub row_more : {ws : List ℕ} {bx by x1 y x2 y2 x top n u v z : ℕ} {r : Run} {m m₁ m₂ : List ℕ} → Cuttable (width ws) (height ws) bx by (area x1 y x2 y2)
     → RunAt ws x y x2 r → n ≡ min top r.top → x1 ≤ x → length m ≡ 6724 → RowCut (picture_of ws) bx by (area x1 y x y2) top m m₁
-    → v ≡ placed by y → u ≡ placed bx x → z ≡ placed bx r.end → Filled r.kind (v * 82 + u) (v * 82 + z) m₁ m₂
+    → v ≡ placed by y → u ≡ placed bx r.start → z ≡ placed bx r.end → Filled r.kind (v * 82 + u) (v * 82 + z) m₁ m₂
     → RowCut (picture_of ws) bx by (area x1 y r.end y2) n m m₂
-row_more {ws} {y = y} {x = x} {top = top} {n = n} {r = r} P C N k a sized c ev eu ez q =
-    let o : n ≡ min top (word ws r.tile 3) = k ∙ ap (λ z. min top z) N.top in
-    rw o (row_next P C r.tile N.names a (omega (arith, N.some)) (omega (arith, N.right)) N.most sized c (rw (N.kind, ev, eu, ez) at q))
+row_more {ws} {y = y} {x = x} {top = top} {n = n} {r = r} C N k a sized c ev eu ez q =
+    let o : n ≡ min top (word ws N.tile 3) = k ∙ ap (λ z. min top z) N.top in
+    rw o (row_next N.plane C N.tile N.names a (omega (arith, N.some)) (omega (arith, N.right)) N.most sized c (rw (N.kind, ev, eu, ez, N.start) at q))
 
 -- ---- all rows
 -- a row, and copies of it up to `top`

@@ -1,5 +1,6 @@
 -- The laws of a piece, each file named after its subject.
 pub mod Counts
+pub mod Reading
 pub mod Drawings
 pub mod Cuts
 pub mod Exchange

@@ -108,12 +108,12 @@ module _ {ws : List ℕ} (P : Plane ws) (two : kinds ws ≡ 2) {x1 y : ℕ} (j :
 
 -- the run that the code has read is added
 pub shown_more : {ws : List ℕ} {x1 y x2 y2 x top n v v' : ℕ} {r : Run} → Readable ws (area x1 y x2 y2) → RunAt ws x y x2 r → n ≡ min top r.top → x1 ≤ x → RowShown (picture_of ws) (area x1 y x y2) v top
-    → v' ≡ with_run r.kind v (x - x1) (r.end - x1)
+    → v' ≡ with_run r.kind v (r.start - x1) (r.end - x1)
     → RowShown (picture_of ws) (area x1 y r.end y2) v' n
 shown_more {ws} {x1} {x = x} {top = top} {n = n} {v = v} {v' = v'} {r = r} R N k a s q =
-    let o : n ≡ min top (word ws r.tile 3) = k ∙ ap (λ z. min top z) N.top in
-    let h : v' ≡ with_run (word ws r.tile 4) v (x - x1) (r.end - x1) = q ∙ ap (λ z. with_run z v (x - x1) (r.end - x1)) N.kind in
-    rw (o, h) (shown_next R.plane R.two r.tile N.names a (omega (arith, N.some)) (omega (arith, N.right)) s)
+    let o : n ≡ min top (word ws N.tile 3) = k ∙ ap (λ z. min top z) N.top in
+    let h : v' ≡ with_run (word ws N.tile 4) v (x - x1) (r.end - x1) = q ∙ ap (λ z. with_run z v (r.start - x1) (r.end - x1)) N.kind ∙ ap (λ z. with_run (word ws N.tile 4) v (z - x1) (r.end - x1)) N.start in
+    rw (o, h) (shown_next R.plane R.two N.tile N.names a (omega (arith, N.some)) (omega (arith, N.right)) s)
 
 -- ---- all rows
 -- where each row of a part is the word, so is the row at each index

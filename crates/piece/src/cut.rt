@@ -8,7 +8,7 @@ ghost use Rattle.rules.specs.Forbid.{outside};
 ghost use Rattle.piece.specs.Cut.{Drawn, row_of, CutOut, Cuttable, RowCut, placed};
 
 use crate::rows::near_area;
-use crate::run::run_at;
+use crate::run::Runs;
 use plane::fill::fill;
 use plane::table::Table;
 use plane::tile::Area;
@@ -33,7 +33,7 @@ fn copy_up(kinds: &mut [u8; 6724], v: usize, to: usize, u1: usize, u2: usize)
 }
 
 // Where column (or row) x of the window stands in the local picture of block b.
-pub fn place(b: u16, x: u16) -> usize
+pub(crate) fn place(b: u16, x: u16) -> usize
     requires { 16 * b ≤ x + 33 }
     ensures { result ≡ placed b x }
 {
@@ -47,21 +47,14 @@ fn cut_row(kinds: &mut [u8; 6724], table: &Table<'_>, i: u16, a: Area, block: Bl
 {
     let at = place(block.y, y) * 82;
     let mut top = a.y2;
-    let mut x = a.x1;
-    let mut tile = i;
-    // A while loop: the step is to the end of the tile found, not to the next column. The loop of row_shown shares that step, run_at, and no more:
-    // a walk that took the rest as a closure would need a longer contract than the loop, on what the closure has changed.
-    while x < a.x2 {
-        let run = run_at(table, tile, x, y, a.x2);
+    for run in Runs::of(table, i, a.x1, y, a.x2) {
         fill(
             kinds,
             run.kind as u8,
-            at + place(block.x, x),
+            at + place(block.x, run.start),
             at + place(block.x, run.end),
         );
         top = top.min(run.top);
-        tile = run.tile;
-        x = run.end;
     }
     top
 }

@@ -4,7 +4,7 @@ ghost use Rattle.plane.specs.Picture.{area};
 ghost use Rattle.plane.specs.Words.{count, picture_of};
 ghost use Rattle.piece.specs.Shown.{Readable, RowShown, SameWords, ShowsRows, with_run};
 
-use crate::run::run_at;
+use crate::run::Runs;
 use plane::table::Table;
 use plane::tile::Area;
 
@@ -34,15 +34,9 @@ fn row_shown(table: &Table<'_>, i: u16, a: Area, y: u16) -> Shown
 {
     let mut word = 0;
     let mut top = a.y2;
-    let mut x = a.x1;
-    let mut tile = i;
-    // A while loop: the step is to the end of the tile found, not to the next column.
-    while x < a.x2 {
-        let run = run_at(table, tile, x, y, a.x2);
-        word = with_run(run.kind, word, x - a.x1, run.end - a.x1);
+    for run in Runs::of(table, i, a.x1, y, a.x2) {
+        word = with_run(run.kind, word, run.start - a.x1, run.end - a.x1);
         top = top.min(run.top);
-        tile = run.tile;
-        x = run.end;
     }
     Shown { word, top }
 }
