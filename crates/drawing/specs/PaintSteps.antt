@@ -1,5 +1,5 @@
 -- What the steps of paint promise one another; no reader of its promise needs it.
-use Rattle.std.specs.Prelude.{ℕ, ◌≡◌, Bool, true, false, List, take}
+use Rattle.std.specs.Prelude.{Option, Some, None, ℕ, ◌≡◌, List, take}
 use Rattle.plane.specs.declared.tile.Area.{Area}
 use Rattle.plane.specs.Refusal.{Lowest, Outcome}
 use Rattle.tables.specs.Like.{table_like, HasRoom, painted_of}
@@ -27,9 +27,9 @@ pub record NonePainted (m q : List ℕ) (a : Area) (kind : ℕ) (m' q' : List �
   pub material : m' ≡ m
   pub waiting : q' ≡ q
 
-abbrev pub PaintedBoth : List ℕ → List ℕ → Area → ℕ → Bool → List ℕ → List ℕ → Type 0
-PaintedBoth m q a kind true m' q' = BothPainted m q a kind m' q'
-PaintedBoth m q a kind false m' q' = NonePainted m q a kind m' q'
+abbrev pub PaintedBoth : List ℕ → List ℕ → Area → ℕ → Option (Unit {0}) → List ℕ → List ℕ → Type 0
+PaintedBoth m q a kind (Some u) m' q' = BothPainted m q a kind m' q'
+PaintedBoth m q a kind None m' q' = NonePainted m q a kind m' q'
 
 -- paint, but for the working room
 abbrev pub PaintedTables : Layout → List ℕ → Area → ℕ → ℕ → Layout → Type 0

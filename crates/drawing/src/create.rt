@@ -3,9 +3,9 @@ ghost use Rattle.plane.specs.Answers.{number};
 ghost use Rattle.sheet.specs.Layout.{lent};
 ghost use Rattle.drawing.specs.Create.{Created};
 
-use plane::answer::{Answer, Refusal};
+use plane::answer::Refusal;
 use plane::words::{in_range, room_in};
-use sheet::shape::one_length;
+use sheet::shape::Layout;
 use tables::table::space_table;
 
 // Makes one tile of space in each of three tables.
@@ -16,18 +16,23 @@ pub fn create(
     w: u16,
     h: u16,
     t: u16,
-) -> Answer
+) -> Result<(), Refusal>
     ensures { Created (lent material.old errors.old waiting.old) w h t (number result) (lent material.new errors.new waiting.new) }
 {
-    if !one_length(material, errors, waiting) {
-        return Answer::No(Refusal::Lengths);
+    let before = Layout {
+        material,
+        errors,
+        waiting,
+    };
+    if !before.one_length() {
+        return Err(Refusal::Lengths);
     }
     if !in_range(w, h, t) {
-        return Answer::No(Refusal::Sizes);
+        return Err(Refusal::Sizes);
     }
     let room = room_in(material.len());
     space_table(material, w, h, t, room);
     space_table(errors, w, h, 2, room);
     space_table(waiting, w, h, 2, room);
-    Answer::Done
+    Ok(())
 }

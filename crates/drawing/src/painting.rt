@@ -3,16 +3,15 @@ ghost use Rattle.std.specs.Prelude.{◌≡◌, ◌<◌, length};
 ghost use Rattle.plane.specs.Answers.{number};
 ghost use Rattle.plane.specs.Words.{kinds};
 ghost use Rattle.tables.specs.Tables.{Paintable};
-ghost use Rattle.sheet.specs.Layout.{lent};
+ghost use Rattle.sheet.specs.Layout.{lent, tables};
 ghost use Rattle.drawing.specs.Paint.{Painted};
 ghost use Rattle.drawing.specs.PaintSteps.{PaintTested, PaintedBoth, PaintedTables};
 
-use plane::answer::{Answer, Refusal};
-use plane::area::area_in;
+use plane::answer::Refusal;
 use plane::tile::Area;
 use plane::words::room_in;
-use sheet::shape::{is_layout, one_length};
-use tables::table::{clear_from, paint_table, tiles_after};
+use sheet::shape::Layout;
+use tables::table::{clear, paint_table, tiles_after};
 
 // Paints material and waiting of a layout, or neither where one of the two has no room: waiting is counted before the material is painted.
 fn paint_both(
@@ -22,51 +21,35 @@ fn paint_both(
     a: Area,
     kind: u16,
     room: usize,
-) -> bool
+) -> Option<()>
     requires paintable { (Paintable room material.old a) × (Paintable room waiting.old a) }
     requires kind_bound { (kind < kinds material.old) × (1 < kinds waiting.old) }
     requires waiting_len { (length waiting.old ≡ length material.old) × (length work.old ≡ length material.old) }
     ensures { PaintedBoth material.old waiting.old a kind result material.new waiting.new }
 {
-    let marked = tiles_after(waiting, a, 1, work, room);
-    if room < marked {
-        return false;
-    }
-    let tiles = paint_table(material, a, kind, work, room);
-    if room < tiles {
-        return false;
-    }
+    tiles_after(waiting, a, 1, work, room)?;
+    paint_table(material, a, kind, work, room)?;
     paint_table(waiting, a, 1, work, room);
-    true
+    Some(())
 }
 
 // What speaks against a paint, but for want of room.
-fn paint_tests(
-    material: &[u16],
-    errors: &[u16],
-    waiting: &[u16],
-    work: &[u16],
-    a: Area,
-    kind: u16,
-) -> Answer
-    ensures { PaintTested (lent material.now errors.now waiting.now) work.now a kind (number result) }
+fn test(before: Layout<'_>, work: &[u16], a: Area, kind: u16) -> Result<(), Refusal>
+    ensures { PaintTested (tables before.entry) work.now a kind (number result) }
 {
-    if !one_length(material, errors, waiting) {
-        return Answer::No(Refusal::Lengths);
+    if !before.one_length() || work.len() != before.material.len() {
+        return Err(Refusal::Lengths);
     }
-    if work.len() != material.len() {
-        return Answer::No(Refusal::Lengths);
+    if !before.is_layout() {
+        return Err(Refusal::NoTable);
     }
-    if !is_layout(material, errors, waiting) {
-        return Answer::No(Refusal::NoTable);
+    if before.material[3] <= kind {
+        return Err(Refusal::Kind);
     }
-    if material[3] <= kind {
-        return Answer::No(Refusal::Kind);
+    if !a.lies_in(before.material[1], before.material[2]) {
+        return Err(Refusal::Place);
     }
-    if !area_in(material[1], material[2], a) {
-        return Answer::No(Refusal::Place);
-    }
-    Answer::Done
+    Ok(())
 }
 
 // Paint, but for clearing the working room.
@@ -77,18 +60,17 @@ fn paint_tables(
     work: &mut [u16],
     a: Area,
     kind: u16,
-) -> Answer
+) -> Result<(), Refusal>
     ensures { PaintedTables (lent material.old errors.now waiting.old) work.old a kind (number result) (lent material.new errors.now waiting.new) }
 {
-    let tested = paint_tests(material, errors, waiting, work, a, kind);
-    if let Answer::No(why) = tested {
-        return Answer::No(why);
-    }
+    let before = Layout {
+        material,
+        errors,
+        waiting,
+    };
+    test(before, work, a, kind)?;
     let room = room_in(material.len());
-    if !paint_both(material, waiting, work, a, kind, room) {
-        return Answer::No(Refusal::Full);
-    }
-    Answer::Done
+    paint_both(material, waiting, work, a, kind, room).ok_or(Refusal::Full)
 }
 
 // Sets an area of the material to a type, and marks that area waiting. The working room is zero afterwards, whatever the answer.
@@ -99,10 +81,10 @@ pub fn paint(
     work: &mut [u16],
     a: Area,
     kind: u16,
-) -> Answer
+) -> Result<(), Refusal>
     ensures { Painted (lent material.old errors.now waiting.old) work.old a kind (number result) (lent material.new errors.now waiting.new) work.new }
 {
     let answer = paint_tables(material, errors, waiting, work, a, kind);
-    clear_from(work, 0);
+    clear(work);
     answer
 }
