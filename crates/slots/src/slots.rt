@@ -41,6 +41,7 @@ impl<'a> Slots<'a> {
     {
         let mut i = 0;
         let mut j = self.count;
+        // A while loop: each step halves what is left, and the words are no list of tiles that could be searched by halves.
         while i < j {
             let m = i + (j - i) / 2;
             if self.nth(m).precedes(t) {

@@ -44,7 +44,7 @@ fn guess_under(work: &mut [u16], n: usize, starts: &[u16; 4096], i: u16, j: u16,
 {
     let mut k = i;
     let mut x = 0;
-    // A loop: each step is the end of the tile found, not one.
+    // A loop without end: each step is the end of the tile found, and what stops it is found in its middle.
     loop {
         guess(work, n, k, 8, j);
         let tiles = Slots {
@@ -118,6 +118,7 @@ pub fn guess_links(work: &mut [u16], n: usize)
     requires { (4 + 9 * n ≤ length work.old) × (n ≤ 65535) }
     ensures { SameTiles work.old work.new }
 {
+    // Words, and no Options: each is tested where it is used, and an Option for each column would double the array.
     let mut starts = [NO_TILE; 4096];
     let mut under = NO_TILE;
     for j in 0..n {

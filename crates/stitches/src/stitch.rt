@@ -39,7 +39,8 @@ pub fn stitch_to(tiles: Slots<'_>, square: Option<(u16, u16)>, k: u16, i: usize)
     }
 }
 
-// The stitches of tile i. Its words have guesses at them.
+// The stitches of tile i. Its words have guesses at them. That the tiles are tight is asked here and below, and is no type's invariant: the words
+// change with each tile that is stitched, so a type over them would have to be made anew at each.
 pub fn links_of(tiles: Slots<'_>, w: u16, h: u16, i: usize) -> Links<u16>
     requires n_in_bounds { (i < tiles.count) × (tiles.count ≤ 65535) }
     requires tight { Tight tiles.words.now tiles.count w h }
