@@ -62,6 +62,7 @@ impl<'a> Sewn<'a> {
         }
         let mut y = a.top;
         let mut s = self.tiles.word(i, 7);
+        // A while loop: the step is down a stitch, to where the tile there begins.
         while a.bottom < y {
             let b = self.tiles.tile(s);
             if b.left != a.right || b.kind == a.kind {
@@ -99,12 +100,7 @@ impl<'a> Sewn<'a> {
     pub fn frames(self) -> bool
         ensures { Tells result (Frames self.entry.tiles.words.now) (Plane self.entry.tiles.words.now) }
     {
-        for i in 0..self.tiles.count() {
-            if !self.framed(i) {
-                return false;
-            }
-        }
-        true
+        (0..self.tiles.count()).all(|i| self.framed(i))
     }
 
     // The squares of all tiles.

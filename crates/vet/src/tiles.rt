@@ -8,7 +8,8 @@ use plane::side::Side;
 use plane::tile::Tile;
 use plane::words::{in_range, nth_tile, word_at};
 
-// Words that have all the tiles that they count, behind a header in its ranges.
+// Words that have all the tiles that they count, behind a header in its ranges. The look-ups are those of plane's Table, which are for words that
+// passed the whole test; one type below both would not tell the callers of a Table that they look at a plane.
 #[derive(Clone, Copy)]
 pub struct Listed<'a> {
     words: &'a [u16],
@@ -88,24 +89,14 @@ impl<'a> Listed<'a> {
     pub fn boxes(self) -> bool
         ensures { Says result (Boxes self.entry.words.now) }
     {
-        for i in 0..self.count() {
-            if !boxed(self.tile(i), self.width(), self.height(), self.kinds()) {
-                return false;
-            }
-        }
-        true
+        (0..self.count()).all(|i| boxed(self.tile(i), self.width(), self.height(), self.kinds()))
     }
 
     // Does each tile come before the next?
     pub fn in_order(self) -> bool
         ensures { Says result (InOrder self.entry.words.now) }
     {
-        for i in 1..self.count() {
-            if !self.tile(i - 1).precedes(self.tile(i)) {
-                return false;
-            }
-        }
-        true
+        (1..self.count()).all(|i| self.tile(i - 1).precedes(self.tile(i)))
     }
 
     // Are the words after the last tile zero? Each is looked at, with no way out in between, so that several go at a time.
@@ -159,17 +150,11 @@ impl<'a> Listed<'a> {
     }
 
     // Are all stitches true?
-    #[tactic(auto, using(crate::proofs::Joints::plane_joints))]
     pub fn stitches(self) -> bool
         requires { Boxes self.words.now }
         ensures { Tells result (Stitches self.entry.words.now) (Plane self.entry.words.now) }
     {
-        for i in 0..self.count() {
-            if !self.stitched(i) {
-                return false;
-            }
-        }
-        true
+        (0..self.count()).all(|i| self.stitched(i))
     }
 
     // The tiles and the stitches, each by itself.
