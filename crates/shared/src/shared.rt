@@ -74,7 +74,7 @@ impl Shared {
         requires { work.count ≤ 65535 }
         ensures { Alike table.now work.entry.words.now work.entry.count result }
     {
-        let t = Slots::of(table);
+        let t = Slots::from(table);
         let m = t.count;
         let n = work.count;
         let most = m.min(n);

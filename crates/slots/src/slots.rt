@@ -15,17 +15,19 @@ pub struct Slots<'a> {
     pub ghost whole: { 4 + 9 * count ≤ length words.now },
 }
 
-impl<'a> Slots<'a> {
-    // The tiles of a table.
-    pub fn of(table: &Table<'a>) -> Slots<'a>
-        ensures { (result.words.now ≡ table.now) × (result.count ≡ count table.now) × (result.count ≤ 65535) }
-    {
+// The tiles of a table.
+impl<'a> From<&Table<'a>> for Slots<'a> {
+    ghost from_gives = { λ t s. (s.words.now ≡ t.now) × (s.count ≡ count t.now) × (s.count ≤ 65535) };
+
+    fn from(table: &Table<'a>) -> Slots<'a> {
         Slots {
             words: table.words(),
             count: usize::from(table.count()),
         }
     }
+}
 
+impl<'a> Slots<'a> {
     // Tile i.
     pub fn nth(self, i: usize) -> Tile
         requires { i < self.count }

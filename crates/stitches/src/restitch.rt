@@ -145,7 +145,7 @@ fn stitch_shared(t: &Table<'_>, work: &mut [u16], n: usize, s: Shared)
         words: work,
         count: s.new,
     };
-    guess_places(Slots::of(t), front, s, &mut places);
+    guess_places(Slots::from(t), front, s, &mut places);
     for i in 0..n {
         let tiles = Slots {
             words: work,
