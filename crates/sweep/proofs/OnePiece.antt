@@ -6,6 +6,8 @@ use mathlib.Core.Path.{◌≡◌, refl, sym, ◌∙◌, ap, subst}
 use mathlib.Core.Logic.{⊎_elim}
 use mathlib.Core.List.{List}
 use lib.Dec.{leb}
+use Rattle.std.specs.Prelude.{Option, Some, None}
+use Rattle.std.specs.Option.{is_some}
 use lib.ListN.{length}
 use borrow.Author.Tests.{leb-true, le-leb, lt-leb}
 use Rattle.plane.specs.declared.tile.Area.{Area}
@@ -98,15 +100,15 @@ module _ {l : Layout} {work rules : List ℕ} {used bx by : ℕ} (P : PieceIn l 
       → Remade l.waiting (painted (picture_of l.waiting) a 0) r vs → Remade l.waiting (piece_waiting l bx by) r vs
   as_waiting {r} {vs = vs} f W = subst (λ (q : Picture). Remade l.waiting q r vs) (waiting_after f) W
 
-  pub as_waiting_tiles : {c r : ℕ} {a : Area} → a ≡ near_area (width l.material) (height l.material) 0 bx by
+  pub as_waiting_tiles : (c : ℕ) (r : Option ℕ) {a : Area} → a ≡ near_area (width l.material) (height l.material) 0 bx by
       → TilesAfter c l.waiting (painted (picture_of l.waiting) a 0) r → TilesAfter c l.waiting (piece_waiting l bx by) r
-  as_waiting_tiles {c} {r} f W = subst (λ (q : Picture). TilesAfter c l.waiting q r) (waiting_after f) W
+  as_waiting_tiles c r f W = subst (λ (q : Picture). TilesAfter c l.waiting q r) (waiting_after f) W
 
   -- waiting would have too many tiles
-  pub piece_unwaited : {c r : ℕ} → c ≡ room l → TilesAfter c l.waiting (piece_waiting l bx by) r → c < r → PieceTried l rules used bx by false l
+  pub piece_unwaited : {c : ℕ} → c ≡ room l → c < waiting_tiles l bx by → PieceTried l rules used bx by false l
   unfolding piece_fits
-  piece_unwaited e W u = record {
-    fits = sym (no_second (leb (error_tiles l rules used bx by) (room l)) (leb (waiting_tiles l bx by) (room l)) (lt-leb (waiting_tiles l bx by) (room l) (omega (arith, W.full u))));
+  piece_unwaited e u = record {
+    fits = sym (no_second (leb (error_tiles l rules used bx by) (room l)) (leb (waiting_tiles l bx by) (room l)) (lt-leb (waiting_tiles l bx by) (room l) (omega arith)));
     leaves = refl;
   }
 
@@ -151,8 +153,9 @@ module _ {l : Layout} {work rules : List ℕ} {used bx by : ℕ} (P : PieceIn l 
           both false = refl
 
       -- they were marked, and the tiles of waiting were counted first
-      pub piece_checked : {c d : ℕ} → c ≡ room l → b ≡ true → TilesAfter c l.waiting (piece_waiting l bx by) d → d ≤ c → PieceTried l rules used bx by r (lent l.material es qs)
-      piece_checked e n T u = piece_tried n (λ f. tf (sym (waiting_fits ∙ le-leb (waiting_tiles l bx by) (room l) (omega (arith, T.number u))) ∙ f))
+      pub piece_checked : {c : ℕ} (d : Option ℕ) → c ≡ room l → b ≡ true → TilesAfter c l.waiting (piece_waiting l bx by) d → is_some d ≡ true → PieceTried l rules used bx by r (lent l.material es qs)
+      piece_checked (Some d) e n T u = piece_tried n (λ f. tf (sym (waiting_fits ∙ le-leb (waiting_tiles l bx by) (room l) (omega (arith, T.number, T.room))) ∙ f))
+      piece_checked None e n T u = tf (sym u)
 
   -- ---- afterwards
   -- the types of what a piece makes
@@ -205,6 +208,7 @@ module _ {l : Layout} {work rules : List ℕ} {used bx by : ℕ} (P : PieceIn l 
         }
 
 -- where waiting would have too many tiles it has no room, with what was counted as a premise, as `check_piece` looks for it
-pub piece_unroomed : {ms es ws work rules : List ℕ} {used bx by c r : ℕ} {a : Area} → PieceIn (lent ms es ws) work rules used bx by → c ≡ room_in (length ms) → a ≡ near_area (width ms) (height ms) 0 bx by
-    → TilesAfter c ws (painted (picture_of ws) a 0) r → c < r → piece_fits (lent ms es ws) (rules_of rules used) (halo_of rules used) bx by ≡ false
-piece_unroomed P e f W u = sym (piece_unwaited P e (as_waiting_tiles P f W) u).fits
+pub piece_unroomed : {ms es ws work rules : List ℕ} {used bx by c : ℕ} (r : Option ℕ) {a : Area} → PieceIn (lent ms es ws) work rules used bx by → c ≡ room_in (length ms) → a ≡ near_area (width ms) (height ms) 0 bx by
+    → TilesAfter c ws (painted (picture_of ws) a 0) r → is_some r ≡ false → piece_fits (lent ms es ws) (rules_of rules used) (halo_of rules used) bx by ≡ false
+piece_unroomed (Some n) P e f W u = tf u
+piece_unroomed {c = c} None P e f W u = sym (piece_unwaited P e (as_waiting_tiles P c None f W)).fits

@@ -2,11 +2,11 @@
 -- Each piece marked is the lowest of that layout, and has room in waiting since a sweep adds at most 32 tiles; in the end the row is cleared at once, which makes that layout.
 use Prim.Native.Nat.{ℕ, ◌+◌, ◌-◌, ◌*◌, ◌≤◌, ◌<◌, min}
 use native.Mathlib.Omega.{arith}
-use mathlib.Core.Bool.{Bool, true, false, not, cond}
+use mathlib.Core.Bool.{Bool, true, false, cond}
 use mathlib.Core.Path.{◌≡◌, refl, sym, ◌∙◌, ap, subst}
 use mathlib.Core.Logic.{⊎_elim}
 use mathlib.Core.List.{List}
-use lib.ListN.{length}
+use lib.ListN.{length, get_or}
 use borrow.Author.Tests.{le-leb}
 use Rattle.plane.specs.declared.tile.Area.{Area}
 use Rattle.plane.specs.Area.{AreaIn}
@@ -17,13 +17,13 @@ use Rattle.plane.proofs.FromTable.{tiles_agree}
 use Rattle.tables.specs.Like.{table_like}
 use Rattle.tables.specs.Tables.{Paintable}
 use Rattle.tables.proofs.Whole.{painted_types, table_length, table_size, table_words, made_shows}
-use Rattle.waits.specs.declared.waits.Block.TheVariants.{At}
-use Rattle.waits.specs.Pieces.{Lowest, blocks, lowest_block, piece_waits}
+use Rattle.std.specs.Prelude.{Some}
+use Rattle.waits.specs.Pieces.{Lowest, block, blocks, lowest_block, piece_waits}
 use Rattle.piece.specs.Remark.{BlockIn, near_area}
 use Rattle.sweep.specs.Sweep.{swept_area}
-use Rattle.waits.specs.Waits.{NextWaiting, WaitingRow}
+use Rattle.waits.specs.Waits.{WaitingRow}
 use Rattle.waits.proofs.Blocks.{lowest_block_lem}
-use Rattle.sweep.proofs.SweptRows.{idle_in_row, lowest_same, rows_below, swept_lowest, swept_next, swept_skip, swept_start, waits_in_row}
+use Rattle.sweep.proofs.SweptRows.{lowest_same, rows_below, swept_lowest, swept_next, swept_skip, swept_start}
 use Rattle.sweep.proofs.Sweeps.{sweep_adds}
 use Rattle.sweep.specs.Run.{lowest_of, piece_waiting}
 use Rattle.remark.specs.Marking.{MarkIn, Remade, errors_near}
@@ -69,7 +69,7 @@ pub record SoFar (l : Layout) (rules : List ℕ) (used bx by n e : ℕ) (es : Li
 module _ {l : Layout} {work rules : List ℕ} {used bx by n : ℕ} (T : TurnIn l work rules used bx by n) where
   -- the lowest waiting piece in words
   lowest : Lowest (width l.waiting) (height l.waiting) (picture_of l.waiting) bx by
-  lowest = lowest_block_lem (width l.waiting) (height l.waiting) (picture_of l.waiting) (At bx by) T.lowest
+  lowest = lowest_block_lem (width l.waiting) (height l.waiting) (picture_of l.waiting) (Some (block bx by)) T.lowest
 
   pub row_block : BlockIn (width l.material) (height l.material) bx by
   row_block = in_window {work = work} (lowest_piece_lem T.fit T.lowest T.working)
@@ -85,9 +85,17 @@ module _ {l : Layout} {work rules : List ℕ} {used bx by n : ℕ} (T : TurnIn l
     first = λ z. refl;
   }
 
-  -- all that were asked for
-  pub row_done : {e done i : ℕ} {full : Bool} {es : List ℕ} → e ≡ blocks (width l.material) → SoFar l rules used bx by n e es done i → full ≡ false → n ≤ done → RowMarked l rules used by n done i full es
-  row_done f S z u = record { turned = turned_so_far S.came S.most (omega (arith, T.some)) z; end = omega (arith, S.to); through = S.through }
+  -- all that were asked for are done
+  pub row_done : {e done i : ℕ} {es : List ℕ} → e ≡ blocks (width l.material) → SoFar l rules used bx by n e es done i → done ≡ n → RowMarked l rules used by n done i false es
+  row_done f S u = record { turned = turned_so_far S.came S.most (omega (arith, T.some)) refl; end = omega (arith, S.to); through = S.through }
+
+  -- or the row ends: the first is done
+  pub row_ends : {e done i : ℕ} {es : List ℕ} → e ≡ blocks (width l.material) → SoFar l rules used bx by n e es done i → i ≡ e → RowMarked l rules used by n done i false es
+  row_ends {e} {done} f S g = record {
+    turned = turned_so_far S.came S.most (⊎_elim (λ (u : 0 < done). omega arith) (λ (u : done ≤ 0). absurd (omega (arith, S.first (omega arith), row_block.column))) (lt_or_ge 0 done)) refl;
+    end = omega arith;
+    through = S.through;
+  }
 
   module _ (R : count l.waiting + 32 ≤ room l) where
     -- ---- what waits when the first c pieces are done
@@ -108,7 +116,7 @@ module _ {l : Layout} {work rules : List ℕ} {used bx by n : ℕ} (T : TurnIn l
         made_shows (room_in (length l.waiting)) (width l.waiting) (height l.waiting) (kinds l.waiting) q (table_like l.waiting q) refl (swept_room c) M.table.header.sizes (painted_types a 0 M.table (omega (arith, M.two)))
 
     -- then column c is the lowest, if it waits
-    swept_next_lowest : (c : ℕ) (es : List ℕ) → piece_waits (width l.waiting) (height l.waiting) (picture_of l.waiting) c by ≡ true → At c by ≡ lowest_of (swept_to l es c by)
+    swept_next_lowest : (c : ℕ) (es : List ℕ) → piece_waits (width l.waiting) (height l.waiting) (picture_of l.waiting) c by ≡ true → Some (block c by) ≡ lowest_of (swept_to l es c by)
     swept_next_lowest c es e =
         let w = width l.waiting in
         let h = height l.waiting in
@@ -132,60 +140,54 @@ module _ {l : Layout} {work rules : List ℕ} {used bx by n : ℕ} (T : TurnIn l
         ∙ swept_next w h (picture_of l.waiting) c by x y a b)
         (swept_room (c + 1))
 
-    -- ---- the next column that waits
-    module _ {e done i c : ℕ} {es cs : List ℕ} (f : e ≡ blocks (width l.material)) (W : WaitingRow (width l.waiting) (height l.waiting) (picture_of l.waiting) by cs) (S : SoFar l rules used bx by n e es done i) (N : NextWaiting cs i e c) where
-      -- up to there none waits
-      none_between : (x : ℕ) → i ≤ x → x < c → piece_waits (width l.waiting) (height l.waiting) (picture_of l.waiting) x by ≡ false
-      none_between x a b = idle_in_row W x (omega (arith, N.to, row_block.wide)) (N.none x a b)
+    -- ---- the next column
+    module _ {e done i : ℕ} {es : List ℕ} {cs : List Bool} (f : e ≡ blocks (width l.material)) (W : WaitingRow (width l.waiting) (height l.waiting) (picture_of l.waiting) by cs) (S : SoFar l rules used bx by n e es done i) (u : i < e) where
+      -- it does not wait: so it is not the first
+      pub row_idle : get_or cs i false ≡ false → SoFar l rules used bx by n e es done (i + 1)
+      row_idle z =
+          let x : piece_waits (width l.waiting) (height l.waiting) (picture_of l.waiting) i by ≡ false = sym (W.each i (omega (arith, row_block.wide))) ∙ z in
+          record {
+            came = subst (λ (z : List ℕ). Came l (lent l.material es z) rules used done)
+                (sym (like_agree l.waiting (swept_skip (width l.waiting) (height l.waiting) (picture_of l.waiting) i (i + 1) by (omega arith) (λ c a b. (let g : c ≡ i = omega arith in rw g x))))) S.came;
+            most = S.most;
+            to = omega arith;
+            through = omega (arith, S.through);
+            first = λ z. (let g : i ≡ bx = S.first z in tf (sym lowest.waits ∙ (rw g at x)));
+          }
 
-      came_to : Came l (swept_to l es c by) rules used done
-      came_to = subst (λ (z : List ℕ). Came l (lent l.material es z) rules used done)
-          (sym (like_agree l.waiting (swept_skip (width l.waiting) (height l.waiting) (picture_of l.waiting) i c by N.from none_between))) S.came
+      -- it waits
+      module _ (z : get_or cs i false ≡ true) where
+        next_lowest : Some (block i by) ≡ lowest_of (swept_to l es i by)
+        next_lowest = swept_next_lowest i es (sym (W.each i (omega (arith, row_block.wide))) ∙ z)
 
-      -- there is none: the first was done
-      pub row_ends : {full : Bool} → full ≡ false → c ≡ e → RowMarked l rules used by n done c full es
-      row_ends z g = record {
-        turned = turned_so_far came_to S.most (⊎_elim (λ (u : 0 < done). omega arith)
-            (λ (u : done ≤ 0). tf (sym lowest.waits ∙ none_between bx (omega (arith, S.first (omega arith))) (omega (arith, row_block.column)))) (lt_or_ge 0 done)) z;
-        end = omega arith;
-        through = omega (arith, S.through, N.from);
-      }
+        next_piece : PieceIn (swept_to l es i by) l.material rules used i by
+        next_piece = lowest_piece_lem S.came.fit next_lowest refl
 
-      module _ (u : c < e) where
-        next_lowest : At c by ≡ lowest_of (swept_to l es c by)
-        next_lowest = swept_next_lowest c es (waits_in_row W c (omega (arith, row_block.wide)) (N.found u))
-
-        next_piece : PieceIn (swept_to l es c by) l.material rules used c by
-        next_piece = lowest_piece_lem came_to.fit next_lowest refl
-
-        -- the piece whose errors are marked next
-        pub next_marks : {vs : List ℕ} → length vs ≡ length l.material → MarkIn l.material es vs rules used c by
+        -- the piece whose errors are marked
+        pub next_marks : {vs : List ℕ} → length vs ≡ length l.material → MarkIn l.material es vs rules used i by
         next_marks s = piece_marks next_piece s
 
-        module _ {b : Bool} {es' : List ℕ} (E : Remade es (errors_near l.material es rules used c by) b es') (some : done < n) where
+        module _ {b : Bool} {es' : List ℕ} (E : Remade es (errors_near l.material es rules used i by) b es') (some : done < n) where
           -- it has no room
-          pub row_full : b ≡ false → RowMarked l rules used by n done c (not b) es'
-          row_full g = subst (λ (z : Bool). RowMarked l rules used by n done c z es') (sym (ap not g)) (record {
-            turned = subst (λ (z : ℕ). Turned l rules used n z true (swept_to l es' c by)) (omega arith)
-                (turned_join {m = 1} came_to (omega arith) (turn_full came_to.fit next_lowest (omega arith) (piece_unmarked next_piece E g) refl));
+          pub row_full : b ≡ false → RowMarked l rules used by n done i true es'
+          row_full g = record {
+            turned = subst (λ (z : ℕ). Turned l rules used n z true (swept_to l es' i by)) (omega arith)
+                (turned_join {m = 1} S.came (omega arith) (turn_full S.came.fit next_lowest (omega arith) (piece_unmarked next_piece E g) refl));
             end = omega arith;
-            through = omega (arith, S.through, N.from);
-          })
+            through = S.through;
+          }
 
           -- it is done
-          pub row_more : b ≡ true → SoFar l rules used bx by n e es' (done + 1) (c + 1)
+          pub row_more : b ≡ true → SoFar l rules used bx by n e es' (done + 1) (i + 1)
           row_more g =
-              let J = turned_join {m = 1} {n = n} came_to (omega arith) (turn_done came_to.fit next_lowest (omega arith) (piece_tried next_piece E (swept_on c es) g (λ z. tf z)) refl) in
-              record { came = J.came; most = J.most; to = omega arith; through = omega (arith, S.through, N.from); first = λ z. absurd (omega arith) }
+              let J = turned_join {m = 1} {n = n} S.came (omega arith) (turn_done S.came.fit next_lowest (omega arith) (piece_tried next_piece E (swept_on i es) g (λ z. tf z)) refl) in
+              record { came = J.came; most = J.most; to = omega arith; through = omega (arith, S.through); first = λ z. absurd (omega arith) }
 
     -- ---- the row is cleared
     module _ {done c : ℕ} {full : Bool} {es : List ℕ} (S : RowMarked l rules used by n done c full es) where
       -- no piece was done: all is as it was
-      pub sweep_none : done ≡ 0 → Turned l rules used n 0 full (lent l.material es l.waiting)
-      sweep_none e =
-          let g : swept_to l es c by ≡ l = came_nowhere S.turned.came e in
-          let h : swept_to l es c by ≡ lent l.material es l.waiting = λ i. lent l.material es (g i).waiting in
-          subst (λ (z : Layout). Turned l rules used n 0 full z) h (subst (λ (z : ℕ). Turned l rules used n z full (swept_to l es c by)) e S.turned)
+      pub sweep_none : done ≡ 0 → Turned l rules used n done full (lent l.material es l.waiting)
+      sweep_none e = subst (λ (z : Layout). Turned l rules used n done full (lent l.material es z.waiting)) (came_nowhere S.turned.came e) S.turned
 
       -- the last piece of the area is one of the window
       pub sweep_last : 1 ≤ done → (1 ≤ c) × BlockIn (width l.material) (height l.material) (c - 1) by

@@ -1,33 +1,22 @@
 -- A row of pieces done from left to right: what waits meanwhile. A piece that does not wait has no waiting square, so to skip it changes nothing; the next piece that waits is the lowest of what is left.
 use Prim.Native.Nat.{ℕ, ◌+◌, ◌*◌, ◌/◌, ◌<◌, ◌≤◌}
 use native.Mathlib.Omega.{arith}
-use mathlib.Core.Bool.{Bool, true, false, cond, true≢false}
-use mathlib.Core.List.{List}
-use mathlib.Core.Path.{◌≡◌, refl, sym, ◌∙◌, ap}
+use mathlib.Core.Bool.{true, false, true≢false}
+use mathlib.Core.Path.{◌≡◌, refl, sym, ◌∙◌}
 use mathlib.Core.Logic.{◌⊎◌, inl, inr, ⊎_elim}
-use lib.ListN.{get_or}
 use Rattle.plane.specs.declared.tile.Area.{Area}
 use Rattle.plane.specs.Picture.{Picture, in_area, painted}
 use Rattle.plane.proofs.Basics.{bool_cases, lt_or_ge, is_false}
 use Rattle.rules.proofs.Searches.{same_truth}
 use Rattle.rules.proofs.Window.{Within, within, area_of}
-use Rattle.waits.specs.declared.waits.Block.{Block}
-use Rattle.waits.specs.declared.waits.Block.TheVariants.{At, Nothing}
-use Rattle.waits.specs.Pieces.{piece_waits, lowest_block, Lowest, LowestOf}
+use Rattle.std.specs.Prelude.{Option, Some, None}
+use Rattle.waits.specs.declared.block.Block.{Block}
+use Rattle.waits.specs.Pieces.{block, piece_waits, lowest_block, Lowest, LowestOf}
 use Rattle.piece.specs.Remark.{near_area}
 use Rattle.sweep.specs.Sweep.{swept_area, swept}
-use Rattle.waits.specs.Waits.{WaitingRow}
 use Rattle.waits.proofs.Blocks.{waits_inside, lowest_block_lem, block_lowest}
 use Rattle.piece.proofs.Counts.{idle_square, piece_has, piece_as}
 use Rattle.sweep.proofs.Sweeps.{painted_in, painted_off}
-
--- ---- a column of a row: 0 if its piece does not wait
-module _ {w h : ℕ} {p : Picture} {by : ℕ} {cs : List ℕ} (r : WaitingRow w h p by cs) (c : ℕ) (l : c < 256) where
-  pub idle_in_row : get_or cs c 0 ≡ 0 → piece_waits w h p c by ≡ false
-  idle_in_row z = is_false (piece_waits w h p c by) (λ e. let o : get_or cs c 0 ≡ 1 = r.each c l ∙ ap (λ (b : Bool). cond b 1 0) e in omega arith)
-
-  pub waits_in_row : (get_or cs c 0 ≡ 0 → ⊥) → piece_waits w h p c by ≡ true
-  waits_in_row n = ⊎_elim (λ e. e) (λ e. absurd (n (r.each c l ∙ ap (λ (b : Bool). cond b 1 0) e))) (bool_cases (piece_waits w h p c by))
 
 -- ---- pictures that agree in the window
 module _ (w h : ℕ) (p q : Picture) (same : (x y : ℕ) → x < w → y < h → p x y ≡ q x y) where
@@ -41,9 +30,9 @@ module _ (w h : ℕ) (p q : Picture) (same : (x y : ℕ) → x < w → y < h →
   pub lowest_same : lowest_block w h p ≡ lowest_block w h q
   lowest_same = block_lowest w h q (lowest_block w h p) (also (lowest_block w h p) (lowest_block_lem w h p (lowest_block w h p) refl))
     where
-      also : (b : Block) → LowestOf w h p b → LowestOf w h q b
-      also (At bx by) l = record { column = l.column; row = l.row; waits = sym (waits_same bx by) ∙ l.waits; least = λ cx cy e. l.least cx cy (waits_same cx cy ∙ e) }
-      also Nothing l = λ bx by. sym (waits_same bx by) ∙ l bx by
+      also : (b : Option Block) → LowestOf w h p b → LowestOf w h q b
+      also (Some b) l = record { column = l.column; row = l.row; waits = sym (waits_same b.x b.y) ∙ l.waits; least = λ cx cy e. l.least cx cy (waits_same cx cy ∙ e) }
+      also None l = λ bx by. sym (waits_same bx by) ∙ l bx by
 
 -- ---- an area done
 within_or_not : (a : Area) (x y : ℕ) → Within a x y ⊎ (Within a x y → ⊥)
@@ -120,8 +109,8 @@ module _ (w h : ℕ) (p : Picture) where
         ∙ painted_off p (swept_area w h 0 by) 0 x y (λ i. omega (arith, i.right_of))
 
     -- with the pieces before it done, a piece of the row that waits is the lowest
-    pub swept_lowest : (bx : ℕ) → piece_waits w h p bx by ≡ true → At bx by ≡ lowest_block w h (swept w h p bx by)
-    swept_lowest bx e = block_lowest w h (swept w h p bx by) (At bx by) (record {
+    pub swept_lowest : (bx : ℕ) → piece_waits w h p bx by ≡ true → Some (block bx by) ≡ lowest_block w h (swept w h p bx by)
+    swept_lowest bx e = block_lowest w h (swept w h p bx by) (Some (block bx by)) (record {
       column = (waits_inside w h p bx by e).0;
       row = l.row;
       waits = piece_as w h p (swept w h p bx by) bx by (λ x y f i. sym (painted_off p (swept_area w h bx by) 0 x y (λ z. omega (arith, f.left_of, z.right_of)))) e;

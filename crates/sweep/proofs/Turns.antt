@@ -9,8 +9,9 @@ use Rattle.plane.specs.Words.{height, picture_of, room_in, width}
 use Rattle.plane.proofs.Basics.{tf}
 use Rattle.plane.proofs.FromTable.{table_plane}
 use Rattle.rules.specs.Words.{halo_of, rules_of}
-use Rattle.waits.specs.declared.waits.Block.{Block}
-use Rattle.waits.specs.declared.waits.Block.TheVariants.{At, Nothing}
+use Rattle.std.specs.Prelude.{Option, Some, None}
+use Rattle.waits.specs.declared.block.Block.{Block}
+use Rattle.waits.specs.Pieces.{block}
 use Rattle.waits.proofs.Blocks.{lowest_block_lem}
 use Rattle.sweep.specs.Run.{Run, after_block, check_run, checked_piece, fits_block, lowest_of, piece_fits, turn}
 use Rattle.sweep.specs.Turn.{Came, OverAt, PieceIn, PieceTried, Turned, more}
@@ -35,25 +36,25 @@ came_none {l} {rules} {used} F = record {
 -- ---- one piece
 module _ {l : Layout} {rules : List ℕ} {used : ℕ} (F : Fit l rules used) where
   -- the first step of a run, by what is the lowest block
-  first_step : (m : ℕ) (b : Block) → b ≡ lowest_of l → check_run (suc m) (rules_of rules used) (halo_of rules used) l ≡ turn b (fits_block l (rules_of rules used) (halo_of rules used) b) l (check_run m (rules_of rules used) (halo_of rules used) (after_block l (rules_of rules used) (halo_of rules used) b))
+  first_step : (m : ℕ) (b : Option Block) → b ≡ lowest_of l → check_run (suc m) (rules_of rules used) (halo_of rules used) l ≡ turn b (fits_block l (rules_of rules used) (halo_of rules used) b) l (check_run m (rules_of rules used) (halo_of rules used) (after_block l (rules_of rules used) (halo_of rules used) b))
   unfolding check_run
-  first_step m b e = ap (λ (z : Block). turn z (fits_block l (rules_of rules used) (halo_of rules used) z) l (check_run m (rules_of rules used) (halo_of rules used) (after_block l (rules_of rules used) (halo_of rules used) z))) (sym e)
+  first_step m b e = ap (λ (z : Option Block). turn z (fits_block l (rules_of rules used) (halo_of rules used) z) l (check_run m (rules_of rules used) (halo_of rules used) (after_block l (rules_of rules used) (halo_of rules used) z))) (sym e)
 
   -- none waits
-  pub idle_over : Nothing ≡ lowest_of l → OverAt 0 l rules used
-  idle_over e m = first_step m Nothing e
+  pub idle_over : None ≡ lowest_of l → OverAt 0 l rules used
+  idle_over e m = first_step m None e
 
-  module _ {bx by : ℕ} (e : At bx by ≡ lowest_of l) where
+  module _ {bx by : ℕ} (e : Some (block bx by) ≡ lowest_of l) where
     -- the lowest waiting block is one of the window
     pub lowest_piece_lem : {work : List ℕ} → length work ≡ length l.material → PieceIn l work rules used bx by
     lowest_piece_lem s =
-        let L = lowest_block_lem (width l.waiting) (height l.waiting) (picture_of l.waiting) (At bx by) e in
+        let L = lowest_block_lem (width l.waiting) (height l.waiting) (picture_of l.waiting) (Some (block bx by)) e in
         let M = F.tables.waiting in
         record { fit = F; working = s; column = omega (arith, L.column, M.wide); row = omega (arith, L.row, M.tall) }
 
     -- the step that it is
-    piece_step : (m : ℕ) (r : Bool) → r ≡ piece_fits l (rules_of rules used) (halo_of rules used) bx by → check_run (suc m) (rules_of rules used) (halo_of rules used) l ≡ turn (At bx by) r l (check_run m (rules_of rules used) (halo_of rules used) (checked_piece l (rules_of rules used) (halo_of rules used) bx by))
-    piece_step m r f = first_step m (At bx by) e ∙ ap (λ (z : Bool). turn (At bx by) z l (check_run m (rules_of rules used) (halo_of rules used) (checked_piece l (rules_of rules used) (halo_of rules used) bx by))) (sym f)
+    piece_step : (m : ℕ) (r : Bool) → r ≡ piece_fits l (rules_of rules used) (halo_of rules used) bx by → check_run (suc m) (rules_of rules used) (halo_of rules used) l ≡ turn (Some (block bx by)) r l (check_run m (rules_of rules used) (halo_of rules used) (checked_piece l (rules_of rules used) (halo_of rules used) bx by))
+    piece_step m r f = first_step m (Some (block bx by)) e ∙ ap (λ (z : Bool). turn (Some (block bx by)) z l (check_run m (rules_of rules used) (halo_of rules used) (checked_piece l (rules_of rules used) (halo_of rules used) bx by))) (sym f)
 
     module _ {n : ℕ} {r : Bool} {after : Layout} (some : 1 ≤ n) (T : PieceTried l rules used bx by r after) where
       -- what it leaves

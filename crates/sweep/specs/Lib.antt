@@ -2,3 +2,4 @@
 pub mod Sweep
 pub mod Run
 pub mod Turn
+pub mod Lending

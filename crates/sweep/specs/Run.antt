@@ -1,11 +1,10 @@
 -- A run of check: the lowest waiting piece, as often as told or until none waits; and what one piece comes to.
-use Rattle.std.specs.Prelude.{ℕ, zero, suc, Bool, true, false, ◌&&◌, List, length, leb}
+use Rattle.std.specs.Prelude.{ℕ, zero, suc, Bool, true, false, ◌&&◌, List, length, leb, Option, Some, None}
 use Rattle.plane.specs.Picture.{Picture, tiles, painted}
 use Rattle.plane.specs.Words.{width, height, picture_of}
 use Rattle.tables.specs.Like.{table_like}
 use Rattle.rules.specs.declared.rule.Rule.{Rule}
-use Rattle.waits.specs.declared.waits.Block.{Block}
-use Rattle.waits.specs.declared.waits.Block.TheVariants.{At, Nothing}
+use Rattle.waits.specs.declared.block.Block.{Block}
 use Rattle.waits.specs.Pieces.{lowest_block, waiting_pieces}
 use Rattle.piece.specs.Remark.{remarked, near_area}
 use Rattle.sheet.specs.Layout.{Layout, room}
@@ -35,7 +34,7 @@ piece_fits l rs k bx by =
 
 -- ---- a run
 -- the lowest waiting piece of a layout
-abbrev pub lowest_of : Layout → Block
+abbrev pub lowest_of : Layout → Option Block
 lowest_of l = lowest_block (width l.waiting) (height l.waiting) (picture_of l.waiting)
 
 -- how many pieces of a layout wait
@@ -57,19 +56,19 @@ abbrev pub one_more : Run → Run
 one_more r = record { number = r.number; done = suc r.done; layout = r.layout }
 
 -- the layout after the piece b, and has it room
-abbrev pub after_block : Layout → List Rule → ℕ → Block → Layout
-after_block l rs k (At bx by) = checked_piece l rs k bx by
-after_block l rs k Nothing = l
+abbrev pub after_block : Layout → List Rule → ℕ → Option Block → Layout
+after_block l rs k (Some b) = checked_piece l rs k b.x b.y
+after_block l rs k None = l
 
-abbrev pub fits_block : Layout → List Rule → ℕ → Block → Bool
-fits_block l rs k (At bx by) = piece_fits l rs k bx by
-fits_block l rs k Nothing = true
+abbrev pub fits_block : Layout → List Rule → ℕ → Option Block → Bool
+fits_block l rs k (Some b) = piece_fits l rs k b.x b.y
+fits_block l rs k None = true
 
 -- none waits: over; a piece with room: done, and on; a piece without: 7, and it is left undone
-abbrev pub turn : Block → Bool → Layout → Run → Run
-turn Nothing fits l next = stopped 0 l
-turn (At bx by) true l next = one_more next
-turn (At bx by) false l next = stopped 7 l
+abbrev pub turn : Option Block → Bool → Layout → Run → Run
+turn None fits l next = stopped 0 l
+turn (Some b) true l next = one_more next
+turn (Some b) false l next = stopped 7 l
 
 -- check n: the lowest waiting piece, n times or until none waits
 unfoldable pub check_run : ℕ → List Rule → ℕ → Layout → Run

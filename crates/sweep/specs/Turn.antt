@@ -1,11 +1,10 @@
 -- A turn of a run: one piece, or a row of them; what its functions promise one another.
-use Rattle.std.specs.Prelude.{ℕ, suc, ◌+◌, ◌*◌, ◌≤◌, ◌<◌, Bool, true, false, cond, ◌≡◌, List, length}
+use Rattle.std.specs.Prelude.{ℕ, suc, ◌+◌, ◌*◌, ◌≤◌, ◌<◌, Bool, true, false, cond, ◌≡◌, List, length, Some}
 use Rattle.plane.specs.Picture.{Picture}
 use Rattle.plane.specs.Words.{width, height, picture_of}
 use Rattle.tables.specs.Like.{table_like}
 use Rattle.rules.specs.Words.{rules_of, halo_of}
-use Rattle.waits.specs.declared.waits.Block.TheVariants.{At}
-use Rattle.waits.specs.Pieces.{blocks}
+use Rattle.waits.specs.Pieces.{block, blocks}
 use Rattle.sweep.specs.Sweep.{swept}
 use Rattle.sweep.specs.Run.{Run, stopped, check_run, lowest_of, checked_piece, piece_fits}
 use Rattle.sheet.specs.Layout.{Layout, lent}
@@ -41,7 +40,7 @@ OverAt x l rules used = (m : ℕ) → check_run (suc m) (rules_of rules used) (h
 pub record TurnIn (l : Layout) (work rules : List ℕ) (used bx by n : ℕ) : Type 0 where
   pub fit : Fit l rules used
   pub working : length work ≡ length l.material
-  pub lowest : At bx by ≡ lowest_of l
+  pub lowest : Some (block bx by) ≡ lowest_of l
   pub some : 1 ≤ n
 
 -- it does a piece or more, or meets one without room; a run goes on from there

@@ -2,10 +2,10 @@
 use Rattle.sweep.proofs.RowSweep.{sweep_none, sweep_last, sweep_paintable, sweep_done}
 use mathlib.Core.Path.{sym, ◌∙◌}
 use native.Mathlib.Omega.{arith}
-use Rattle.sweep.proofs.sweep.sweep_row.Goals as goal
+use Rattle.sweep.proofs.lent.Lent.sweep_row.Goals as goal
 
-pub returns-then-row-eq0 : goal.returns-then-row-eq0
-returns-then-row-eq0 c = sweep_none c.requires.turn_in c.requires.waiting_bound c.mark_row-row.ensures c.if-row-eq0.true
+pub returns-then-ran-eq0-clause-turned : goal.returns-then-ran-eq0-clause-turned
+returns-then-ran-eq0-clause-turned c = sweep_none c.requires.turn_in c.requires.waiting_bound c.mark_row-row.ensures c.if-ran-eq0.true
 
 pub row_area-swept-requires : goal.row_area-swept-requires
 row_area-swept-requires c = sweep_last c.requires.turn_in c.requires.waiting_bound c.mark_row-row.ensures (omega arith)
@@ -13,5 +13,5 @@ row_area-swept-requires c = sweep_last c.requires.turn_in c.requires.waiting_bou
 pub end_waiting-requires : goal.end_waiting-requires
 end_waiting-requires c = record { paintable = sweep_paintable c.requires.turn_in c.requires.waiting_bound c.mark_row-row.ensures c.row_area-swept.ensures (omega arith) c.room_in.ensures; waiting_value = (c.requires.turn_in.fit.tables.waiting.two, c.mark_row-row.auto.work ∙ (c.requires.turn_in.working ∙ sym c.requires.turn_in.fit.lengths.tables.waiting)) }
 
-pub returns : goal.returns
-returns c = sweep_done c.requires.turn_in c.requires.waiting_bound c.mark_row-row.ensures c.row_area-swept.ensures c.end_waiting.ensures
+pub returns-clause-turned : goal.returns-clause-turned
+returns-clause-turned c = sweep_done c.requires.turn_in c.requires.waiting_bound c.mark_row-row.ensures c.row_area-swept.ensures c.end_waiting.ensures
