@@ -22,7 +22,6 @@ use Rattle.rules.specs.declared.rule.Rule.{Rule}
 use Rattle.rules.specs.Forbid.{forbidden}
 use Rattle.rules.specs.Words.{halo_of, rules_of}
 use Rattle.piece.specs.Remark.{BlockIn, near_area, near_block, remarked}
-use Rattle.piece.proofs.Remarks.{near_in}
 use Rattle.sweep.specs.Run.{checked_piece, piece_errors, piece_fits, piece_waiting}
 use Rattle.remark.specs.Marking.{MarkIn, Remade}
 use Rattle.sweep.specs.Turn.{PieceIn, PieceTried}
@@ -82,9 +81,6 @@ module _ {l : Layout} {work rules : List ℕ} {used bx by : ℕ} (P : PieceIn l 
 
   pub in_window : BlockIn (width l.material) (height l.material) bx by
   in_window = piece_block {work = work} (piece_marks P.working)
-
-  pub waiting_paintable : {c : ℕ} {a : Area} → c ≡ room l → a ≡ near_area (width l.material) (height l.material) 0 bx by → Paintable c l.waiting a
-  waiting_paintable e f = waiting_area P.fit e (subst (λ (b : Area). AreaIn (width l.material) (height l.material) b) (sym f) (near_in 0 in_window))
 
   pub waiting_kinds : kinds l.waiting ≡ 2
   waiting_kinds = P.fit.tables.waiting.two

@@ -10,7 +10,7 @@ use lib.ListN.{length, get_or}
 use borrow.Author.Tests.{le-leb}
 use Rattle.plane.specs.declared.tile.Area.{Area}
 use Rattle.plane.specs.Area.{AreaIn}
-use Rattle.plane.specs.Picture.{Picture, area, in_area, painted, table, tiles}
+use Rattle.plane.specs.Picture.{Picture, in_area, painted, table, tiles}
 use Rattle.plane.specs.Words.{count, height, kinds, picture_of, room_in, width}
 use Rattle.plane.proofs.Basics.{lt_or_ge, tf}
 use Rattle.plane.proofs.FromTable.{tiles_agree}
@@ -49,20 +49,12 @@ remade_as {vs} ws {p} {q} l w h k f u =
       leaves = sym ((λ i. table (room_in (l i)) (w i) (h i) (k i) p) ∙ like_agree ws f);
     }
 
--- the area of a row's first e pieces, by its last piece
-pub row_first : {a : Area} (w h e by : ℕ) → 1 ≤ e → a ≡ near_area w h 0 (e - 1) by → area 0 a.y1 a.x2 a.y2 ≡ swept_area w h e by
-row_first {a} w h e by u f =
-    let y : a.y1 ≡ 16 * by = omega (arith, ap (λ (b : Area). b.y1) f) in
-    let x : a.x2 ≡ min w (16 * e) = omega (arith, ap (λ (b : Area). b.x2) f) in
-    let t : a.y2 ≡ min h (16 * by + 16) = omega (arith, ap (λ (b : Area). b.y2) f) in
-    λ i. area 0 (y i) (x i) (t i)
-
 -- ---- the pieces so far
--- done pieces of row by, from column bx on, are marked, and none before column i waits; e is the row's end
-pub record SoFar (l : Layout) (rules : List ℕ) (used bx by n e : ℕ) (es : List ℕ) (done i : ℕ) : Type 0 where
+-- done pieces of row by, from column bx on, are marked, and none before column i waits
+pub record SoFar (l : Layout) (rules : List ℕ) (used bx by n : ℕ) (es : List ℕ) (done i : ℕ) : Type 0 where
   pub came : Came l (swept_to l es i by) rules used done
   pub most : done ≤ n
-  pub to : i ≤ e
+  pub to : i ≤ blocks (width l.material)
   pub through : done ≤ i
   pub first : done ≡ 0 → i ≡ bx
 
@@ -75,8 +67,8 @@ module _ {l : Layout} {work rules : List ℕ} {used bx by n : ℕ} (T : TurnIn l
   row_block = in_window {work = work} (lowest_piece_lem T.fit T.lowest T.working)
 
   -- nothing waits before the first
-  pub row_start : {e : ℕ} → e ≡ blocks (width l.material) → SoFar l rules used bx by n e l.errors 0 bx
-  row_start {e} f = record {
+  pub row_start : SoFar l rules used bx by n l.errors 0 bx
+  row_start = record {
     came = subst (λ (z : List ℕ). Came l (lent l.material l.errors z) rules used 0)
         (T.fit.tables.waiting.table.same ∙ sym (like_agree l.waiting (swept_start (width l.waiting) (height l.waiting) (picture_of l.waiting) lowest))) (came_none T.fit);
     most = omega arith;
@@ -85,13 +77,9 @@ module _ {l : Layout} {work rules : List ℕ} {used bx by n : ℕ} (T : TurnIn l
     first = λ z. refl;
   }
 
-  -- all that were asked for are done
-  pub row_done : {e done i : ℕ} {es : List ℕ} → e ≡ blocks (width l.material) → SoFar l rules used bx by n e es done i → done ≡ n → RowMarked l rules used by n done i false es
-  row_done f S u = record { turned = turned_so_far S.came S.most (omega (arith, T.some)) refl; end = omega (arith, S.to); through = S.through }
-
-  -- or the row ends: the first is done
-  pub row_ends : {e done i : ℕ} {es : List ℕ} → e ≡ blocks (width l.material) → SoFar l rules used bx by n e es done i → i ≡ e → RowMarked l rules used by n done i false es
-  row_ends {e} {done} f S g = record {
+  -- the row ends: the first is done
+  pub row_ends : {done i : ℕ} {es : List ℕ} → SoFar l rules used bx by n es done i → i ≡ blocks (width l.material) → RowMarked l rules used by n done i false es
+  row_ends {done} S g = record {
     turned = turned_so_far S.came S.most (⊎_elim (λ (u : 0 < done). omega arith) (λ (u : done ≤ 0). absurd (omega (arith, S.first (omega arith), row_block.column))) (lt_or_ge 0 done)) refl;
     end = omega arith;
     through = S.through;
@@ -141,9 +129,9 @@ module _ {l : Layout} {work rules : List ℕ} {used bx by n : ℕ} (T : TurnIn l
         (swept_room (c + 1))
 
     -- ---- the next column
-    module _ {e done i : ℕ} {es : List ℕ} {cs : List Bool} (f : e ≡ blocks (width l.material)) (W : WaitingRow (width l.waiting) (height l.waiting) (picture_of l.waiting) by cs) (S : SoFar l rules used bx by n e es done i) (u : i < e) where
+    module _ {done i : ℕ} {es : List ℕ} {cs : List Bool} (W : WaitingRow (width l.waiting) (height l.waiting) (picture_of l.waiting) by cs) (S : SoFar l rules used bx by n es done i) (u : i < blocks (width l.material)) where
       -- it does not wait: so it is not the first
-      pub row_idle : get_or cs i false ≡ false → SoFar l rules used bx by n e es done (i + 1)
+      pub row_idle : get_or cs i false ≡ false → SoFar l rules used bx by n es done (i + 1)
       row_idle z =
           let x : piece_waits (width l.waiting) (height l.waiting) (picture_of l.waiting) i by ≡ false = sym (W.each i (omega (arith, row_block.wide))) ∙ z in
           record {
@@ -178,7 +166,7 @@ module _ {l : Layout} {work rules : List ℕ} {used bx by n : ℕ} (T : TurnIn l
           }
 
           -- it is done
-          pub row_more : b ≡ true → SoFar l rules used bx by n e es' (done + 1) (i + 1)
+          pub row_more : b ≡ true → SoFar l rules used bx by n es' (done + 1) (i + 1)
           row_more g =
               let J = turned_join {m = 1} {n = n} S.came (omega arith) (turn_done S.came.fit next_lowest (omega arith) (piece_tried next_piece E (swept_on i es) g (λ z. tf z)) refl) in
               record { came = J.came; most = J.most; to = omega arith; through = omega (arith, S.through); first = λ z. absurd (omega arith) }

@@ -34,6 +34,7 @@ pub struct Swept {
 }
 
 // Marks the errors of the waiting pieces of the lowest one's row, from that on, at most n, until the row ends or a piece has no room.
+// It takes the slices one by one and no Lent, since it only reads what waits.
 fn mark_row(
     material: &[u16],
     errors: &mut [u16],
@@ -48,34 +49,23 @@ fn mark_row(
     ensures { RowMarked (lent material.now errors.old waiting.now) rules.entry.words.now rules.entry.used lowest.y n result.done result.end result.full errors.new }
 {
     let columns = row_of(waiting, usize::from(lowest.y));
-    let end = material[1].div_ceil(16);
     let mut done: usize = 0;
-    for x in lowest.x..end {
+    let mut end = lowest.x;
+    let mut full = false;
+    for x in lowest.x..material[1].div_ceil(16) {
         if done == n {
-            return Swept {
-                done,
-                end: x,
-                full: false,
-            };
+            break;
         }
-        if !columns[usize::from(x)] {
-            continue;
+        if columns[usize::from(x)] {
+            full = !remark(material, errors, work, rules, Block { x, y: lowest.y });
+            if full {
+                break;
+            }
+            done += 1;
         }
-        let piece = Block { x, y: lowest.y };
-        if !remark(material, errors, work, rules, piece) {
-            return Swept {
-                done,
-                end: x,
-                full: true,
-            };
-        }
-        done += 1;
+        end = x + 1;
     }
-    Swept {
-        done,
-        end,
-        full: false,
-    }
+    Swept { done, end, full }
 }
 
 // The squares of the first e pieces of row y.
