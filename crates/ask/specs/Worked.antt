@@ -1,4 +1,4 @@
--- Questions to the first two tables of document 01's worked squares, by computing; the tables themselves stand in the checker's list of all starred lines.
+-- Questions to two small worked tables, by computing; the tables themselves stand in the checker's list of worked lines.
 use Rattle.std.specs.Prelude.{ℕ, ◌≡◌, refl, List, [], ◌∷◌}
 use Rattle.plane.specs.Area.{squares_in, tiles_in}
 use Rattle.plane.specs.Picture.{table, painted, space, area}

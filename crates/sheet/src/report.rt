@@ -125,9 +125,7 @@ fn report_in(
     }
     let halo = rules.halo();
     let settled = settled_in(&Table::of(layout.waiting), halo, a);
-    let Some(errors) = errors_in(&Table::of(layout.errors), a, out) else {
-        return Err(ReportError::Full);
-    };
+    let errors = errors_in(&Table::of(layout.errors), a, out).ok_or(ReportError::Full)?;
     Ok(Found {
         settled,
         squares: errors.squares,

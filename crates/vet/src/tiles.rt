@@ -105,7 +105,7 @@ impl<'a> Listed<'a> {
     {
         let mut all = true;
         for word in &self.words[4 + 9 * usize::from(self.count())..] {
-            all = all & (*word == 0);
+            all &= *word == 0;
         }
         all
     }
