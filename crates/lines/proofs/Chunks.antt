@@ -1,10 +1,10 @@
 -- Bytes lead on from where the bytes before them led.
-use Prim.Native.Nat.{ℕ, ◌+◌, ◌<◌, ◌≤◌}
+use Prim.Native.Nat.{ℕ, ◌+◌, ◌<◌}
 use native.Mathlib.Numerals.{add-one}
 use mathlib.Core.Path.{◌≡◌, refl, sym, ap, ◌∙◌}
-use mathlib.Core.List.{List, [], ◌∷◌, ◌++◌, append_assoc}
-use lib.ListN.{length, get_or, drop, drop_of_length-le}
-use lib.Seq.{drop-cons}
+use mathlib.Core.List.{List, [], ◌∷◌, ◌++◌, append-nil, append_assoc}
+use lib.ListN.{length, get_or, take}
+use lib.Seq.{take-suc}
 use Rattle.lines.specs.Session.{Model, stepped, spoken, fed, output}
 
 pub fed_append : (m : Model) (xs ys : List ℕ) → fed m (xs ++ ys) ≡ fed (fed m xs) ys
@@ -18,19 +18,15 @@ output_append m [] ys = refl
 output_append m (b ∷ xs) ys =
     ap (λ (l : List ℕ). spoken m b ++ l) (output_append (stepped m b) xs ys) ∙ sym (append_assoc (spoken m b) (output (stepped m b) xs) (output (fed (stepped m b) xs) ys))
 
--- ---- a chunk from its i-th byte on
-pub fed_on : (m : Model) (l : List ℕ) (i : ℕ) → i < length l → fed m (drop i l) ≡ fed (stepped m (get_or l i 0)) (drop (i + 1) l)
-unfolding fed
-fed_on m l i h = rw (drop-cons l i 0 h, add-one i)
+-- ---- one byte more of a chunk
+module _ (m : Model) (l : List ℕ) (i b : ℕ) (h : i < length l) (is : b ≡ get_or l i 0) where
+  more : take (i + 1) l ≡ take i l ++ (b ∷ [])
+  more = rw (add-one i, is) (take-suc l i 0 h)
 
-pub fed_end : (m : Model) (l : List ℕ) (i : ℕ) → length l ≤ i → fed m (drop i l) ≡ m
-unfolding fed
-fed_end m l i h = rw (drop_of_length-le l h)
+  pub fed_more : fed m (take (i + 1) l) ≡ stepped (fed m (take i l)) b
+  unfolding fed
+  fed_more = ap (fed m) more ∙ fed_append m (take i l) (b ∷ [])
 
-pub output_on : (m : Model) (l : List ℕ) (i : ℕ) → i < length l → output m (drop i l) ≡ spoken m (get_or l i 0) ++ output (stepped m (get_or l i 0)) (drop (i + 1) l)
-unfolding output
-output_on m l i h = rw (drop-cons l i 0 h, add-one i)
-
-pub output_end : (m : Model) (l : List ℕ) (i : ℕ) → length l ≤ i → output m (drop i l) ≡ []
-unfolding output
-output_end m l i h = rw (drop_of_length-le l h)
+  pub output_more : output m (take (i + 1) l) ≡ output m (take i l) ++ spoken (fed m (take i l)) b
+  unfolding output
+  output_more = ap (output m) more ∙ (output_append m (take i l) (b ∷ []) ∙ ap (λ (z : List ℕ). output m (take i l) ++ z) (append-nil (spoken (fed m (take i l)) b)))

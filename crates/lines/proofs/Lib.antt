@@ -1,4 +1,3 @@
--- The laws of the lines, each file named after its subject.
+-- Laws of the lines.
 pub mod Chunks
-pub mod Steps
 pub mod Feeds

@@ -1,11 +1,9 @@
 -- The session as a machine over the bytes of its input: what it holds, and what it writes.
-use Rattle.std.specs.Prelude.{ℕ, ◌+◌, Bool, true, false, cond, List, [], ◌∷◌, ◌++◌, eqb, replicate}
-use Rattle.sheet.specs.Layout.{lent}
+use Rattle.std.specs.Prelude.{ℕ, ◌+◌, Bool, true, false, cond, Option, None, List, [], ◌∷◌, ◌++◌, eqb}
 use Rattle.text.specs.Line.{too_long}
 use Rattle.commands.specs.Command.{command_of}
 use Rattle.replies.specs.Reply.{reply_bytes}
 use Rattle.commands.specs.declared.command.Command.{Command}
-use Rattle.commands.specs.declared.command.Command.TheVariants.{Nothing}
 use Rattle.replies.specs.declared.reply.Reply.{Reply}
 use Rattle.desk.specs.Model as desk
 
@@ -15,17 +13,13 @@ pub record Model : Type 0 where
   pub desk : desk.Model
   pub lines : ℕ
 
--- a table of 400 tiles before anything is written to it
-abbrev pub zeros : List ℕ
-zeros = replicate 3604 0
-
 -- nothing read, no layout, no rules
 abbrev pub start : Model
-start = record { bytes = []; desk = record { ready = false; painted = false; layout = lent zeros zeros zeros; rules = [] }; lines = 0 }
+start = record { bytes = []; desk = desk.blank; lines = 0 }
 
 -- the command of a line: none if it is over 200 bytes
-abbrev pub command_in : List ℕ → Command
-command_in p = cond (too_long p) Nothing (command_of p)
+abbrev pub command_in : List ℕ → Option Command
+command_in p = cond (too_long p) None (command_of p)
 
 -- the desk after the line that was read, and the reply to it
 abbrev pub answer_to : Model → desk.Model × Reply

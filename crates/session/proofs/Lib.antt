@@ -1,4 +1,4 @@
--- The laws of the program, each file named after its subject.
+-- Laws of the session.
 pub mod Exchanges
 pub mod Wires
 pub mod Turns

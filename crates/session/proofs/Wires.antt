@@ -8,7 +8,7 @@ use Rattle.session.specs.Wire.{Hears, Says, carried_heard, carried_said}
 pub some_left : (b : Bool) (n : ℕ) → (b && not (nat_eq n 0)) ≡ true → 0 < n
 some_left b n e = grind arith
 
-pub hears : (w : Wire) (k : ℕ) (buf : List ℕ) → k ≤ length buf → Hears w (record { wire = record { heard = w.heard + k; said = w.said; «open» = w.open && not (nat_eq k 0); whole = w.whole }; k = k }) buf
+pub hears : (w : Wire) (k : ℕ) (buf : List ℕ) → k ≤ length buf → Hears w (record { heard = w.heard + k; said = w.said; «open» = w.open && not (nat_eq k 0); whole = w.whole }) k buf
 hears w k buf h = record {
   within = h;
   some = some_left w.open k;

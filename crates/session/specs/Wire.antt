@@ -1,7 +1,6 @@
 -- What passes over the wire between the program and its user: a log of the bytes heard and said, and which log a wire has carried.
 use Rattle.std.specs.Prelude.{ℕ, ◌+◌, ◌≤◌, ◌<◌, true, ◌≡◌, refl, List, [], ◌∷◌, ◌++◌, length, take}
 use Rattle.std.proofs.Common.{sym, ap, ◌∙◌, append-nil, append_assoc, length-append}
-use Rattle.session.specs.declared.wire.Came.{Came}
 use Rattle.session.specs.declared.wire.Wire.{Wire}
 
 -- bytes heard from the reader, or bytes said to the writer: standard input and standard output in the program
@@ -27,12 +26,12 @@ pub record Carried (w : Wire) (log : List Passed) : Type 0 where
   outs : w.said ≡ length (said_in log)
 
 -- k bytes have been read, to the start of buf: none if the input has ended
-pub record Hears (w : Wire) (r : Came) (buf : List ℕ) : Type 0 where
-  pub within : r.k ≤ length buf
-  pub some : r.wire.open ≡ true → 0 < r.k
-  pub ins : r.wire.heard ≤ w.heard + r.k
-  pub outs : r.wire.said ≤ w.said
-  pub passed : (log : List Passed) → Carried w log → Carried r.wire (log ++ (heard (take r.k buf) ∷ []))
+pub record Hears (w r : Wire) (k : ℕ) (buf : List ℕ) : Type 0 where
+  pub within : k ≤ length buf
+  pub some : r.open ≡ true → 0 < k
+  pub ins : r.heard ≤ w.heard + k
+  pub outs : r.said ≤ w.said
+  pub passed : (log : List Passed) → Carried w log → Carried r (log ++ (heard (take k buf) ∷ []))
 
 -- bytes have been handed to write
 pub record Says (w : Wire) (bytes : List ℕ) (r : Wire) : Type 0 where

@@ -10,20 +10,5 @@ mod wire;
 use crate::turn::run;
 
 fn main(rt: HostRuntime) {
-    let mut material = [0u16; 3604];
-    let mut errors = [0u16; 3604];
-    let mut waiting = [0u16; 3604];
-    let mut work = [0u16; 3604];
-    let mut rules = [0u16; 4096];
-    let mut out = [0u8; 40960];
-    run(
-        &mut rt.stdin(),
-        &mut rt.stdout(),
-        &mut material,
-        &mut errors,
-        &mut waiting,
-        &mut work,
-        &mut rules,
-        &mut out,
-    );
+    run(&mut rt.stdin(), &mut rt.stdout());
 }

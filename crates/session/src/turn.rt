@@ -1,78 +1,50 @@
 // Turns: hear, take what came, say the replies; until the wire is closed.
-ghost use Rattle.std.specs.Prelude.{◌+◌, ◌≤◌, ◌<◌, ◌^◌, length};
-ghost use Rattle.lines.specs.Held.{store, Blank, Safe};
+ghost use Rattle.std.specs.Prelude.{◌+◌, ◌<◌, ◌^◌};
 ghost use Rattle.session.specs.Conversed.{TurnedAt, ConversedAt};
 
-use crate::wire::{Wire, hear, is_open, say, unused};
-use lines::feed::{feed, finish};
-use lines::state::{State, started};
+use crate::wire::Wire;
+use lines::state::State;
 use std::io::{Read, Write};
 
-// The state and the wire after a turn.
-#[derive(Clone, Copy)]
-pub struct Turn {
+// The state, the wire, and the room for the replies of a turn.
+#[derive(Drop)]
+pub struct Session {
     pub state: State,
     pub wire: Wire,
+    pub out: [u8; 40960],
 }
 
-// Reads once, takes what came, and writes the replies. At the end of the input it takes and writes nothing.
-fn take_turn<R: Read, W: Write>(
-    reader: &mut R,
-    writer: &mut W,
-    material: &mut [u16],
-    errors: &mut [u16],
-    waiting: &mut [u16],
-    work: &mut [u16],
-    rules: &mut [u16],
-    out: &mut [u8],
-    s: State,
-    w: Wire,
-) -> Turn
-    requires safe { Safe s (store material.old errors.old waiting.old work.old rules.old) }
-    requires lines { s.lines + 513 < 2 ^ 64 }
-    requires room { 40960 ≤ length out.old }
-    requires ins { w.heard + 512 < 2 ^ 64 }
-    requires outs { w.said + 40960 < 2 ^ 64 }
-    ensures { TurnedAt s (store material.old errors.old waiting.old work.old rules.old) w result (store material.new errors.new waiting.new work.new rules.new)
-        (R.remaining reader.old) (R.remaining reader.new) (W.contents writer.old) (W.contents writer.new) }
-{
-    let mut buf = [0u8; 512];
-    let h = hear(reader, &mut buf, w);
-    let k = h.k;
-    let f = feed(material, errors, waiting, work, rules, out, s, &buf[..k]);
-    let n = f.n;
-    let wire = h.wire;
-    let wire = say(writer, &out[..n], wire);
-    let state = f.state;
-    Turn { state, wire }
+impl Session {
+    // Reads once, takes what came, and writes the replies. At the end of the input it takes and writes nothing.
+    fn turn<R: Read, W: Write>(&mut self, reader: &mut R, writer: &mut W)
+        requires lines { self.old.state.lines + 513 < 2 ^ 64 }
+        requires ins { self.old.wire.heard + 512 < 2 ^ 64 }
+        requires outs { self.old.wire.said + 40960 < 2 ^ 64 }
+        ensures { TurnedAt self.old self.new (R.remaining reader.old) (R.remaining reader.new) (W.contents writer.old) (W.contents writer.new) }
+    {
+        let mut buf = [0u8; 512];
+        let k = self.wire.hear(reader, &mut buf);
+        let n = self.state.feed(&buf[..k], &mut self.out);
+        self.wire.say(writer, &self.out[..n]);
+    }
 }
 
-// Reads until the wire is closed. A proved loop has to end, so it counts its turns down, from a number that no run uses up.
-pub fn run<R: Read, W: Write>(
-    reader: &mut R,
-    writer: &mut W,
-    material: &mut [u16],
-    errors: &mut [u16],
-    waiting: &mut [u16],
-    work: &mut [u16],
-    rules: &mut [u16],
-    out: &mut [u8],
-) -> Wire
-    requires blank { Blank (store material.old errors.old waiting.old work.old rules.old) }
-    requires room { 40960 ≤ length out.old }
+// Reads until the wire is closed. A proved loop has to end: it takes 2^48 turns at most, which no run uses up.
+pub fn run<R: Read, W: Write>(reader: &mut R, writer: &mut W) -> Wire
     ensures { ConversedAt result (R.remaining reader.old) (R.remaining reader.new) (W.contents writer.old) (W.contents writer.new) }
 {
-    let mut st = started();
-    let mut w = unused();
-    let mut turns: u64 = 281474976710656;
-    while is_open(w) & (turns != 0) {
-        let t = take_turn(
-            reader, writer, material, errors, waiting, work, rules, out, st, w,
-        );
-        st = t.state;
-        w = t.wire;
-        turns -= 1;
+    let mut session = Session {
+        state: State::new(),
+        wire: Wire::unused(),
+        out: [0u8; 40960],
+    };
+    for _turn in 0..1u64 << 48 {
+        if !session.wire.is_open() {
+            break;
+        }
+        session.turn(reader, writer);
     }
-    let n = finish(material, errors, waiting, work, rules, out, st);
-    say(writer, &out[..n], w)
+    let n = session.state.finish(&mut session.out);
+    session.wire.say(writer, &session.out[..n]);
+    session.wire
 }

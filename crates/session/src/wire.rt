@@ -18,63 +18,51 @@ pub struct Wire {
     said: u64,
 }
 
-// The wire after a read, and how many bytes came.
-#[derive(Clone, Copy)]
-pub struct Came {
-    pub wire: Wire,
-    pub k: usize,
-}
-
-// Nothing has passed.
-pub fn unused() -> Wire
-    ensures heard { result.heard ≡ 0 }
-    ensures said { result.said ≡ 0 }
-    ensures is_open { result.open ≡ true }
-    ensures carried { Carried result [] }
-{
-    Wire {
-        open: true,
-        whole: true,
-        heard: 0,
-        said: 0,
+impl Wire {
+    // Nothing has passed.
+    pub fn unused() -> Wire
+        ensures heard { result.heard ≡ 0 }
+        ensures said { result.said ≡ 0 }
+        ensures is_open { result.open ≡ true }
+        ensures carried { Carried result [] }
+    {
+        Wire {
+            open: true,
+            whole: true,
+            heard: 0,
+            said: 0,
+        }
     }
-}
 
-pub fn is_open(w: Wire) -> bool
-    ensures { result ≡ w.open }
-{
-    w.open
-}
+    pub fn is_open(&self) -> bool
+        ensures { result ≡ self.now.open }
+    {
+        self.open
+    }
 
-// Reads once, to the start of `buf`. A read that fails is the end of the input.
-pub fn hear<R: Read>(reader: &mut R, buf: &mut [u8], w: Wire) -> Came
-    requires room { 0 < length buf.old }
-    requires count { w.heard + length buf.old < 2 ^ 64 }
-    ensures hears { Hears w result buf.new }
-    ensures taken { Consumes (R.remaining reader.old) (R.remaining reader.new) (take result.k buf.new) }
-    ensures whole { result.wire.whole ≡ w.whole }
-{
-    let k = reader.read(buf).unwrap_or(0);
-    let wire = Wire {
-        open: w.open & (k != 0),
-        whole: w.whole,
-        heard: w.heard + (k as u64),
-        said: w.said,
-    };
-    Came { wire, k }
-}
+    // Reads once, to the start of `buf`; how many bytes came. A read that fails is the end of the input.
+    pub fn hear<R: Read>(&mut self, reader: &mut R, buf: &mut [u8]) -> usize
+        requires room { 0 < length buf.old }
+        requires count { self.old.heard + length buf.old < 2 ^ 64 }
+        ensures hears { Hears self.old self.new result buf.new }
+        ensures taken { Consumes (R.remaining reader.old) (R.remaining reader.new) (take result buf.new) }
+        ensures whole { self.new.whole ≡ self.old.whole }
+    {
+        let k = reader.read(buf).unwrap_or(0);
+        self.open &= k != 0;
+        self.heard += k as u64;
+        k
+    }
 
-// Writes bytes. A write that fails closes the wire.
-pub fn say<W: Write>(writer: &mut W, bytes: &[u8], w: Wire) -> Wire
-    requires { w.said + length bytes.now < 2 ^ 64 }
-    ensures says { Says w bytes.now result }
-    ensures put { result.whole ≡ true → (w.whole ≡ true) × Appends (W.contents writer.old) (W.contents writer.new) bytes.now }
-{
-    let written = writer.write_all(bytes).is_ok();
-    Wire {
-        open: w.open & written,
-        whole: w.whole & written,
-        heard: w.heard,
-        said: w.said + (bytes.len() as u64),
+    // Writes bytes. A write that fails closes the wire.
+    pub fn say<W: Write>(&mut self, writer: &mut W, bytes: &[u8])
+        requires { self.old.said + length bytes.now < 2 ^ 64 }
+        ensures says { Says self.old bytes.now self.new }
+        ensures put { self.new.whole ≡ true → (self.old.whole ≡ true) × Appends (W.contents writer.old) (W.contents writer.new) bytes.now }
+    {
+        let written = writer.write_all(bytes).is_ok();
+        self.open &= written;
+        self.whole &= written;
+        self.said += bytes.len() as u64;
     }
 }

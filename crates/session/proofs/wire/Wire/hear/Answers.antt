@@ -2,7 +2,7 @@
 use Rattle.std.proofs.Common.{arith}
 use Rattle.std.proofs.lemmas.Grind.{common_steps}
 use Rattle.session.proofs.Wires.{hears}
-use Rattle.session.proofs.wire.hear.Goals as goal
+use Rattle.session.proofs.wire.Wire.hear.Goals as goal
 
 pub returns-clause-hears : goal.returns-clause-hears
-returns-clause-hears g c = hears c.args.w c.unwrap_or-k.result c.read.new.buf (grind (arith, common_steps, c.read.ensures.bound))
+returns-clause-hears g c = hears c.args.self.now c.unwrap_or-k.result c.read.new.buf (grind (arith, common_steps, c.read.ensures.bound))
