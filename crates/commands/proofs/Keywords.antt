@@ -1,21 +1,11 @@
--- Two words that are not of one length are not the same.
-use mathlib.Core.Path.{◌≡◌, refl, ap}
-use mathlib.Core.Bool.{false, and-false}
+-- A word of which every byte is known is that word.
+use mathlib.Core.Path.{◌≡◌, ap}
 use mathlib.Core.List.{List, [], ◌∷◌}
-use Prim.Native.Nat.{ℕ, suc, ◌+◌, ◌<◌}
+use Prim.Native.Nat.{ℕ, ◌+◌, ◌<◌}
 use native.Mathlib.Omega.{arith}
 use native.Mathlib.Numerals.{add-one}
-use lib.Dec.{eqb}
 use lib.ListN.{length, get_or, drop, drop_of_length-le}
 use lib.Seq.{drop-cons}
-use Rattle.text.specs.Word.{sameb}
-
-pub same_lengths : (a b : List ℕ) → (length a ≡ length b → ⊥) → sameb a b ≡ false
-unfolding sameb
-same_lengths [] [] n = absurd (n refl)
-same_lengths [] (d ∷ m) n = refl
-same_lengths (c ∷ l) [] n = refl
-same_lengths (c ∷ l) (d ∷ m) n = rw (same_lengths l m (λ e. n (ap suc e))) (and-false (eqb c d))
 
 -- a word of which every byte is known
 abbrev pub Spelt : List ℕ → ℕ → List ℕ → Type 0

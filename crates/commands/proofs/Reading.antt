@@ -52,8 +52,10 @@ one_not (u ∷ ws) zero d h e = rw e refl
 one_not (u ∷ ws) (suc k) d h e = rw (one_not ws k d (omega arith) e) (and-false (is_number u))
 
 module _ (ws : List (List ℕ)) (k : ℕ) (n : List ℕ) (inv : ReadTo ws k n) where
-  pub read_done : length ws ≤ k → Good n ws
-  read_done h = record { all = ap all_numbers (sym (take_all k ws h)) ∙ inv.all; are = ap values (sym (take_all k ws h)) ∙ inv.are }
+  pub read_done : k ≡ length ws → Good n ws
+  read_done e =
+      let h : length ws ≤ k = omega arith in
+      record { all = ap all_numbers (sym (take_all k ws h)) ∙ inv.all; are = ap values (sym (take_all k ws h)) ∙ inv.are }
 
 module _ (ws : List (List ℕ)) (k : ℕ) (n : List ℕ) (inv : ReadTo ws k n) (h : k < length ws) (w : List ℕ) (is : w ≡ get_or ws k w) where
   pub read_on : (v : ℕ) (m : List ℕ) → Some v ≡ number_of w → m ≡ n ++ (v ∷ []) → ReadTo ws (k + 1) m

@@ -1,11 +1,11 @@
-// The session's replies, as bytes put into a lent slice: 80 at most for one. No `write!`: its contract says nothing of when a write succeeds, and a reply that has its room is put for sure.
+// The session's replies, as bytes put into a lent slice: 80 at most for one.
 ghost use Rattle.std.specs.Prelude.{◌++◌, ◌+◌, ◌≤◌, length};
 ghost use Rattle.replies.specs.Reply.{ended, reply_bytes};
 ghost use Rattle.text.specs.Put.{Puts, Room};
 
 use text::writer::Writer;
 
-// What a line is answered with.
+// What a line is answered with. Numbers, as they are said: the worked replies (specs/Worked) speak of them.
 #[derive(Clone, Copy)]
 pub enum Reply {
     Ok,
@@ -46,7 +46,7 @@ impl Reply {
     }
 }
 
-// Puts a line: a word, and numbers, each behind a blank.
+// Puts a line: a word, and numbers, each behind a blank. Not by `write!`, whose contract does not say when a write succeeds: where there is room, a reply is put for sure.
 fn put_line(out: &mut Writer<'_>, word: &[u8], numbers: &[u64])
     requires { (length word.now ≤ 8) × (length numbers.now ≤ 3) × Room out.old 80 }
     ensures { (Puts out.old out.new (word.now ++ ended numbers.now)) × (out.new.at ≤ out.old.at + 80) }

@@ -5,6 +5,7 @@ ghost use Rattle.text.specs.Line.{Reads};
 
 use std::marker::Model;
 
+// The first `count` of `bytes` are the line's; no count where it is too long.
 #[derive(Drop)]
 pub struct Line {
     bytes: [u8; 200],
@@ -37,15 +38,13 @@ impl Line {
     pub fn push(&mut self, b: u8)
         ensures { (p : List ℕ) → Reads self.old p → Reads self.new (p ++ (b ∷ [])) }
     {
-        let Some(count) = self.count else {
-            return;
+        self.count = match self.count {
+            Some(count) if count < 200 => {
+                self.bytes[count] = b;
+                Some(count + 1)
+            }
+            _ => None,
         };
-        if count >= 200 {
-            self.count = None;
-            return;
-        }
-        self.bytes[count] = b;
-        self.count = Some(count + 1);
     }
 
     // The line's bytes; none if it is too long.

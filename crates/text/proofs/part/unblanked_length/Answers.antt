@@ -9,6 +9,5 @@ use Rattle.text.proofs.part.unblanked_length.Goals as goal
 
 pub returns : goal.returns
 returns c =
-    let reversed = YieldsList-from_rev_slice c.args.text.now cc in
     unblanked_counted c.args.text.now c.count.result
-    (count_from_yields_List _ _ c.count.ensures.ran (YieldsList-from_take_while _ blank (YieldsList-at c.take_while.ensures.source reversed) c.take_while.ensures.closure c.take_while.ensures.done (λ x b q k. search (rules, tests))))
+    (count_from_yields_List _ _ c.count.ensures.ran (YieldsList-from_take_while _ blank (YieldsList-at c.take_while.ensures.source (YieldsList-from_rev_slice c.args.text.now cc)) c.take_while.ensures.closure c.take_while.ensures.done (λ x b q k. search (rules, tests))))

@@ -1,7 +1,8 @@
 -- `Keyword::of`. Where the match goes by the length and the bytes, the definition goes word by word: what is left of it is grind's, or the word's spelling.
 use Rattle.std.proofs.Common.{[], ◌∷◌, ap, sym, arith, rules}
 use Rattle.std.proofs.lemmas.Grind.{common_steps}
-use Rattle.commands.proofs.Keywords.{same_lengths, spelt}
+use Rattle.text.proofs.Words.{same_lengths}
+use Rattle.commands.proofs.Keywords.{spelt}
 use Rattle.commands.specs.Command.{keyword_in, keyword_of}
 use Rattle.text.specs.Word.{sameb}
 use Rattle.commands.proofs.keyword.Keyword.of.Goals as goal

@@ -1,5 +1,5 @@
 -- `Numbers::of`. Of the parts after the first, some are read and the others are left; each turn reads the next.
-use Rattle.std.proofs.Common.{rules, tests, sym, ◌∙◌, arith}
+use Rattle.std.proofs.Common.{rules, tests, sym, ◌∙◌}
 use Rattle.std.proofs.lemmas.Iterator.Consumers.{YieldsList-turn, YieldsList-end}
 use Rattle.std.proofs.lemmas.List.{length_push}
 use Rattle.commands.proofs.Reading.{parts_given, read_none, read_on, read_not, read_many, read_done}
@@ -30,4 +30,4 @@ pub returns : goal.returns
 returns c =
     let given = parts_given _ c.args.text.now (cc) (cc) (cc) (cc) (λ x b q k. search (rules, tests)) in
     let t = YieldsList-end given c.loop-part.yielded _ c.loop-part.yielded_by _ _ c.in-None.is c.next.ensures.steps in
-    read_done _ _ _ c.loop-part.invariant (omega (arith, sym t.1))
+    read_done _ _ _ c.loop-part.invariant t.1
