@@ -4,4 +4,3 @@ pub mod RuleLists
 pub mod MadeSound
 pub mod Draws
 pub mod Rulings
-pub mod Answers

@@ -11,7 +11,7 @@ use borrow.Author.Tests.{leb-true, le-leb, lt-ltb, eq-eqb, eqb-true, eqb-false, 
 use Rattle.plane.specs.Picture.{joined}
 use Rattle.plane.proofs.Basics.{and_left, and_right, tf}
 use Rattle.rules.specs.declared.rule.Rule.{Rule}
-use Rattle.macros.specs.declared.macros.Made.{Made}
+use Rattle.macros.specs.declared.pairs.Made.{Made}
 use Rattle.macros.specs.Macros.{made, cell, row, row_if, rows, width, width_sound, taken, second, half_spacing, spacing, spacing_sound}
 use Rattle.rules.specs.Sets.{member, within, others, both, disjoint}
 use Rattle.rules.specs.Some.{Every, some}

@@ -1,5 +1,5 @@
 -- The desk: what it holds, and what each command makes of it and is answered. By the libraries' own definitions, and executable.
-use Rattle.std.specs.Prelude.{ℕ, zero, suc, ◌+◌, max, Bool, true, false, not, cond, List, [], ◌∷◌, ◌++◌, length, leb, ltb}
+use Rattle.std.specs.Prelude.{ℕ, zero, suc, ◌+◌, max, Bool, true, false, not, cond, List, [], ◌∷◌, ◌++◌, length, leb, ltb, replicate, Option, Some, None}
 use Rattle.plane.specs.declared.tile.Area.{Area}
 use Rattle.plane.specs.Picture.{area}
 use Rattle.plane.specs.Words as words
@@ -8,11 +8,11 @@ use Rattle.macros.specs.Macros.{width, width_sound, spacing, spacing_sound}
 use Rattle.rules.specs.Words.{sound, reach}
 use Rattle.sweep.specs.Run.{check_run, CheckLeft, ran_check}
 use Rattle.drawing.specs.Create.{fresh}
-use Rattle.sheet.specs.Layout.{Layout}
+use Rattle.sheet.specs.Layout.{Layout, lent}
 use Rattle.drawing.specs.Paint.{painted_layout}
 use Rattle.sheet.specs.Report.{Findings, findings}
 use Rattle.commands.specs.declared.command.Command.{Command}
-use Rattle.commands.specs.declared.command.Command.TheVariants.{New, Rule, Width, Spacing, Paint, Check, Report, Nothing}
+use Rattle.commands.specs.declared.command.Command.TheVariants.{New, Rule, Width, Spacing, Paint, Check, Report}
 use Rattle.replies.specs.declared.reply.Reply.{Reply}
 use Rattle.replies.specs.declared.reply.Reply.TheVariants as reply
 use Rattle.desk.specs.Tests.{first_no, in_range, area_in, both_fit}
@@ -30,6 +30,14 @@ pub record Model : Type 0 where
   pub painted : Bool
   pub layout : Layout
   pub rules : List rules.Rule
+
+-- a table of 400 tiles before anything is written to it
+abbrev pub zeros : List ℕ
+zeros = replicate 3604 0
+
+-- before any command: no layout, no paint and no rules
+unfoldable pub blank : Model
+blank = record { ready = false; painted = false; layout = lent zeros zeros zeros; rules = [] }
 
 -- T of the layout
 abbrev pub kinds_of : Model → ℕ
@@ -85,31 +93,35 @@ reported_on m line a = cond (in_window m a) (found_reply (findings m.layout (hal
 
 -- ---- the answer to a command on a line
 -- before an accepted `new`, any line that is not a `new` command is out of turn
-abbrev pub early : Model → ℕ → Command → Model × Reply
-early m line (New w h t) = opened m line w h t
-early m line (Rule a b d s c e f r) = (m, reply.No 8 line)
-early m line (Width s d r) = (m, reply.No 8 line)
-early m line (Spacing a b d touch r) = (m, reply.No 8 line)
-early m line (Paint x1 y1 x2 y2 k) = (m, reply.No 8 line)
-early m line (Check n) = (m, reply.No 8 line)
-early m line (Report x1 y1 x2 y2) = (m, reply.No 8 line)
-early m line Nothing = (m, reply.No 8 line)
+abbrev pub early : Model → ℕ → Option Command → Model × Reply
+early m line (Some (New w h t)) = opened m line w h t
+early m line (Some (Rule a b d s c e f r)) = (m, reply.No 8 line)
+early m line (Some (Width s d r)) = (m, reply.No 8 line)
+early m line (Some (Spacing a b d touch r)) = (m, reply.No 8 line)
+early m line (Some (Paint x1 y1 x2 y2 k)) = (m, reply.No 8 line)
+early m line (Some (Check n)) = (m, reply.No 8 line)
+early m line (Some (Report x1 y1 x2 y2)) = (m, reply.No 8 line)
+early m line None = (m, reply.No 8 line)
 
 -- one rule of a line
 abbrev pub rule_of : ℕ → ℕ → ℕ → ℕ → ℕ → ℕ → ℕ → ℕ → rules.Rule
 rule_of a b d s c e f r = record { type1 = a; type2 = b; d = d; allowed = s; corners = c; ce = e; fourway = f; reason = r }
 
--- and after it
-abbrev pub later : Model → ℕ → Command → Model × Reply
-later m line (New w h t) = opened m line w h t
-later m line (Rule a b d s c e f r) = added m line (sound (kinds_of m) (rule_of a b d s c e f r)) (rule_of a b d s c e f r ∷ [])
-later m line (Width s d r) = added m line (width_sound (kinds_of m) s d) (width (kinds_of m) s d r)
-later m line (Spacing a b d touch r) = added m line (spacing_sound (kinds_of m) a b d touch) (spacing (kinds_of m) a b d touch r)
-later m line (Paint x1 y1 x2 y2 k) = painted_by m line (area x1 y1 x2 y2) k
-later m line (Check n) = checked_by m n
-later m line (Report x1 y1 x2 y2) = (m, reported_on m line (area x1 y1 x2 y2))
-later m line Nothing = (m, reply.No 9 line)
+-- a command after it
+abbrev pub obeyed : Model → ℕ → Command → Model × Reply
+obeyed m line (New w h t) = opened m line w h t
+obeyed m line (Rule a b d s c e f r) = added m line (sound (kinds_of m) (rule_of a b d s c e f r)) (rule_of a b d s c e f r ∷ [])
+obeyed m line (Width s d r) = added m line (width_sound (kinds_of m) s d) (width (kinds_of m) s d r)
+obeyed m line (Spacing a b d touch r) = added m line (spacing_sound (kinds_of m) a b d touch) (spacing (kinds_of m) a b d touch r)
+obeyed m line (Paint x1 y1 x2 y2 k) = painted_by m line (area x1 y1 x2 y2) k
+obeyed m line (Check n) = checked_by m n
+obeyed m line (Report x1 y1 x2 y2) = (m, reported_on m line (area x1 y1 x2 y2))
 
--- the desk after a command, and the reply to it; line is the command's line
-unfoldable pub answered : Model → ℕ → Command → Model × Reply
+-- and any line after it
+abbrev pub later : Model → ℕ → Option Command → Model × Reply
+later m line (Some c) = obeyed m line c
+later m line None = (m, reply.No 9 line)
+
+-- the desk after a line's command, and the reply to it; a line that is no command has none
+unfoldable pub answered : Model → ℕ → Option Command → Model × Reply
 answered m line c = cond m.ready (later m line c) (early m line c)

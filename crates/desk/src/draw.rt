@@ -1,54 +1,46 @@
 // The commands that change the picture: new and paint.
-ghost use Rattle.std.specs.Prelude.{true, List, ◌≡◌, ℕ};
-ghost use Rattle.sheet.specs.Layout.{lent};
-ghost use Rattle.desk.specs.Kept.{model_of, Kept, Comes};
+ghost use Rattle.std.specs.Prelude.{true, ◌≡◌, ℕ};
+ghost use Rattle.desk.specs.Answers.{told};
 ghost use Rattle.desk.specs.Model.{opened, painted_by};
 
-use crate::state::{Answered, Desk, take_answer};
+use crate::state::{Desk, Refused, Stage};
 use drawing::create::create;
 use drawing::painting::paint;
 use plane::tile::Area;
+use replies::reply::Reply;
 
-// new W H T: starts afresh, with no rules and no paint.
-pub fn new_window(
-    material: &mut [u16],
-    errors: &mut [u16],
-    waiting: &mut [u16],
-    d: Desk,
-    line: u64,
-    w: u16,
-    h: u16,
-    t: u16,
-) -> Answered
-    ensures { (work ws : List ℕ) → Kept d (lent material.old errors.old waiting.old) work ws → Comes (opened (model_of d (lent material.old errors.old waiting.old) ws) line w h t) result (lent material.new errors.new waiting.new) work ws }
-{
-    let made = create(material, errors, waiting, w, h, t);
-    let new = Desk {
-        ready: true,
-        painted: false,
-        used: 0,
-    };
-    take_answer(made, new, d, line)
-}
+impl Desk {
+    // new W H T: starts afresh, with no rules and no paint.
+    pub fn new_window(&mut self, w: u16, h: u16, t: u16) -> Result<Reply, Refused>
+        ensures { (line : ℕ) → (self.new, told result line) ≡ opened self.old line w h t }
+    {
+        create(
+            &mut self.material,
+            &mut self.errors,
+            &mut self.waiting,
+            w,
+            h,
+            t,
+        )?;
+        self.used = 0;
+        self.stage = Stage::Unpainted;
+        Ok(Reply::Ok)
+    }
 
-// paint: the area of the material, and the area waiting.
-pub fn paint_area(
-    material: &mut [u16],
-    errors: &[u16],
-    waiting: &mut [u16],
-    work: &mut [u16],
-    d: Desk,
-    line: u64,
-    a: Area,
-    kind: u16,
-) -> Answered
-    ensures { (ws : List ℕ) → Kept d (lent material.old errors.now waiting.old) work.old ws → d.ready ≡ true → Comes (painted_by (model_of d (lent material.old errors.now waiting.old) ws) line a kind) result (lent material.new errors.now waiting.new) work.new ws }
-{
-    let answer = paint(material, errors, waiting, work, a, kind);
-    let new = Desk {
-        ready: d.ready,
-        painted: true,
-        used: d.used,
-    };
-    take_answer(answer, new, d, line)
+    // paint: the area of the material, and the area waiting.
+    pub fn paint(&mut self, a: Area, kind: u16) -> Result<Reply, Refused>
+        requires { self.old.ready ≡ true }
+        ensures { (line : ℕ) → (self.new, told result line) ≡ painted_by self.old line a kind }
+    {
+        paint(
+            &mut self.material,
+            &self.errors,
+            &mut self.waiting,
+            &mut self.work,
+            a,
+            kind,
+        )?;
+        self.stage = Stage::Painted;
+        Ok(Reply::Ok)
+    }
 }

@@ -1,5 +1,5 @@
 // The desk of the session: three tables, a working room and a rule list, and what each command does to them and is answered.
-// No public calls: whoever uses it owns the slices, and keeps what specs/Kept says of them.
+// No public calls. A Desk owns its slices and keeps what specs/Kept says of them, so that its callers need not.
 #![tactic(auto)]
 
 pub mod draw;

@@ -1,51 +1,88 @@
-// What the desk knows beside its slices, and what a command comes to.
+// What the desk holds, and why a command is refused.
 ghost use Rattle.std.specs.Prelude.{◌≡◌};
-ghost use Rattle.desk.specs.Kept.{said_ok, said_no, took_answer};
+ghost use Rattle.desk.specs.declared.state.Refused.TheVariants.{By};
+ghost use Rattle.desk.specs.Answers.{refused_number};
+ghost use Rattle.desk.specs.Model.{blank};
 
-use plane::answer::{Answer, refusal_number};
-use replies::reply::Reply;
+use plane::answer::Refusal;
+use std::marker::Model;
 
-// Was a `new` accepted, a paint since, and how many rules are used?
-#[derive(Clone, Copy)]
+// How far the layout has come: no `new` was accepted; one was, and no paint since; a paint too, after which no rules are taken.
+#[derive(Clone, Copy, PartialEq, Eq)]
+pub enum Stage {
+    Unmade,
+    Unpainted,
+    Painted,
+}
+
+// Three tables with room for 400 tiles, a working room as long, a list with room for 512 rules, and how many of them are used. A contract
+// sees a Desk as its model (specs/Model): of the list only the used rules count, and nothing of the working room.
+#[derive(Drop)]
 pub struct Desk {
-    pub ready: bool,
-    pub painted: bool,
+    pub material: [u16; 3604],
+    pub errors: [u16; 3604],
+    pub waiting: [u16; 3604],
+    pub work: [u16; 3604],
+    pub rules: [u16; 4096],
     pub used: usize,
+    pub stage: Stage,
 }
 
-// The desk after a command, and the reply to it.
-#[derive(Clone, Copy)]
-pub struct Answered {
-    pub desk: Desk,
-    pub reply: Reply,
+impl Model for Desk {
+    ghost use Rattle.desk.specs.Model.{Model};
+
+    ghost Value = { Model };
+
+    ghost use Rattle.desk.specs.Kept.{model_of, Kept};
+
+    ghost view = { model_of };
+
+    ghost invariant = { Kept };
 }
 
-// An accepted command.
-pub fn accepted(desk: Desk) -> Answered
-    ensures { result ≡ said_ok desk }
-{
-    Answered {
-        desk,
-        reply: Reply::Ok,
+// Why a command is refused: by the call that it makes, since it is out of turn, or since it is no command.
+#[derive(Clone, Copy, PartialEq, Eq)]
+pub enum Refused {
+    By(Refusal),
+    OutOfTurn,
+    Unknown,
+}
+
+impl From<Refusal> for Refused {
+    ghost from_gives = { λ why e. e ≡ By why };
+
+    fn from(why: Refusal) -> Refused {
+        Refused::By(why)
     }
 }
 
-// A number that says no.
-pub fn refused(desk: Desk, number: u8, line: u64) -> Answered
-    ensures { result ≡ said_no desk number line }
-{
-    Answered {
-        desk,
-        reply: Reply::No { number, line },
+// The number that the reply names.
+impl From<Refused> for u8 {
+    ghost from_gives = { λ e n. n ≡ refused_number e };
+
+    fn from(e: Refused) -> u8 {
+        match e {
+            Refused::By(why) => why as u8,
+            Refused::OutOfTurn => 8,
+            Refused::Unknown => 9,
+        }
     }
 }
 
-// What the desk makes of the answer of a call that only changes what it is lent: accepted, the new desk, and refused, the old one.
-pub fn take_answer(answer: Answer, new: Desk, old: Desk, line: u64) -> Answered
-    ensures { result ≡ took_answer answer new old line }
-{
-    let Answer::No(why) = answer else {
-        return accepted(new);
-    };
-    refused(old, refusal_number(why) as u8, line)
+impl Desk {
+    // A desk before any command.
+    #[tactic(auto, unfolding(crate::specs::Model::blank))]
+    pub fn new() -> Desk
+        ensures { result ≡ blank }
+    {
+        Desk {
+            material: [0; 3604],
+            errors: [0; 3604],
+            waiting: [0; 3604],
+            work: [0; 3604],
+            rules: [0; 4096],
+            used: 0,
+            stage: Stage::Unmade,
+        }
+    }
 }
