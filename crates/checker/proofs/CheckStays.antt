@@ -7,8 +7,8 @@ use mathlib.Core.List.{List}
 use Rattle.plane.specs.Refusal.{Lowest, if_done}
 use Rattle.rules.specs.declared.rule.Rule.{Rule}
 use Rattle.rules.specs.Words.{halo_of, rules_of}
-use Rattle.waits.specs.declared.waits.Block.{Block}
-use Rattle.waits.specs.declared.waits.Block.TheVariants.{At, Nothing}
+use Rattle.std.specs.Prelude.{Option, Some, None}
+use Rattle.waits.specs.declared.block.Block.{Block}
 use Rattle.sweep.specs.Run.{Run, after_block, check_run, fits_block, lowest_of, turn, CheckLeft, ran_check}
 use Rattle.checker.specs.Check.{Checked, check_refusals, refused_check}
 use Rattle.sheet.specs.Layout.{Layout, SoundLayout}
@@ -17,10 +17,10 @@ use Rattle.checker.proofs.Checkings.{passed_fit}
 use Rattle.checker.proofs.Runs.{Keeps, piece_fit, run_idle, run_keeps}
 
 -- ---- a run
-turn_few : (b : Block) (f : Bool) (l : Layout) (r : Run) (n : ℕ) → r.done ≤ n → (turn b f l r).done ≤ suc n
-turn_few Nothing f l r n u = omega arith
-turn_few (At bx by) true l r n u = omega arith
-turn_few (At bx by) false l r n u = omega arith
+turn_few : (b : Option Block) (f : Bool) (l : Layout) (r : Run) (n : ℕ) → r.done ≤ n → (turn b f l r).done ≤ suc n
+turn_few None f l r n u = omega arith
+turn_few (Some b) true l r n u = omega arith
+turn_few (Some b) false l r n u = omega arith
 
 pub run_few : (n : ℕ) (rs : List Rule) (k : ℕ) (l : Layout) → (check_run n rs k l).done ≤ n
 unfolding check_run

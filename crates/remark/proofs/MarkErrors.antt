@@ -85,12 +85,6 @@ itself {ws} T = record { fits = sym (le-leb (length (tiles (width ws) (height ws
 
 -- ---- what the steps are handed
 module _ {ms es work rules : List ℕ} {used bx by : ℕ} (P : MarkIn ms es work rules used bx by) where
-  pub piece_words : 13 ≤ length ms
-  piece_words = omega (arith, P.sized.words, P.sized.least)
-
-  pub piece_listed : 8 * used ≤ length rules
-  piece_listed = omega (arith, P.list.room)
-
   pub piece_checkable : {k : ℕ} → k ≡ halo_of rules used → Checkable ms rules used k bx by
   piece_checkable e = record {
     plane = table_plane (room_in (length ms)) ms P.table;

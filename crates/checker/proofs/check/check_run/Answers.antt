@@ -5,14 +5,14 @@ use mathlib.Core.Path.{sym, ◌∙◌}
 use native.Mathlib.Omega.{arith}
 use Rattle.checker.proofs.check.check_run.Goals as goal
 
-pub lowest_waiting-lowest-requires : goal.lowest_waiting-lowest-requires
-lowest_waiting-lowest-requires c = waiting_plane c.loop-done.invariant.5.fit
+pub lowest_waiting-requires : goal.lowest_waiting-requires
+lowest_waiting-requires c = waiting_plane c.loop-done.invariant.3.fit
 
-pub returns-in_default : goal.returns-in_default
-returns-in_default c = ran_idle c.loop-done.invariant.5 (omega arith) (idle_over c.loop-done.invariant.5.fit (sym c.in_default.is ∙ c.lowest_waiting-lowest.ensures))
+pub returns-in_default-clause-ran : goal.returns-in_default-clause-ran
+returns-in_default-clause-ran c = ran_idle c.loop-done.invariant.3 (omega arith) (idle_over c.loop-done.invariant.3.fit (sym c.in_default.is ∙ c.lowest_waiting.ensures))
 
-pub returns-then-turn : goal.returns-then-turn
-returns-then-turn c = ran_full (came_join c.loop-done.invariant.5 c.one_turn-turn.ensures.came) (omega (arith, (c.one_turn-turn.ensures.stuck c.if-turn.true).0)) (c.one_turn-turn.ensures.stuck c.if-turn.true).1
+pub returns-then-turn-clause-ran : goal.returns-then-turn-clause-ran
+returns-then-turn-clause-ran c = ran_full (came_join c.loop-done.invariant.3 c.one_turn-turn.ensures.turned.came) (omega (arith, (c.one_turn-turn.ensures.turned.stuck c.if-turn.true).0)) (c.one_turn-turn.ensures.turned.stuck c.if-turn.true).1
 
-pub returns : goal.returns
-returns c = ran_all c.loop-done.invariant.5 (omega arith)
+pub returns-clause-ran : goal.returns-clause-ran
+returns-clause-ran c = ran_all c.loop-done.invariant.3 (omega arith)
