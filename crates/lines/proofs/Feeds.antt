@@ -4,10 +4,9 @@ use native.Mathlib.Omega.{arith}
 use mathlib.Core.Path.{◌≡◌, refl, sym, ap, subst, ◌∙◌}
 use mathlib.Core.List.{List, ◌++◌}
 use lib.ListN.{length, get_or, take}
-use lib.Seq.{take_all}
 use Rattle.text.specs.declared.writer.Writer.{Writer}
 use Rattle.lines.specs.declared.state.State.{State}
-use Rattle.lines.specs.Held.{Holds, Stepped, Took}
+use Rattle.lines.specs.Held.{Holds, Stepped}
 use Rattle.lines.specs.Session.{Model, fed, output, spoken}
 use Rattle.lines.proofs.Chunks.{fed_more, output_more}
 
@@ -36,14 +35,3 @@ going_on {chunk} {s} {st} {r} {w} {out} {next} {i} {b} G h is S = record {
         k.1 ∙ (ap (λ (x : List ℕ). x ++ spoken (fed m (take i chunk)) b) g.1 ∙ sym (output_more m chunk i b h is)),
       );
 }
-
-pub going_end : {chunk : List ℕ} {s st : State} {w out : Writer} {i : ℕ} → Going chunk s w st out i → i ≡ length chunk → length chunk * 80 ≤ length w.out.now → Took s chunk st out.at out.out.now
-going_end {chunk} {s} {st} {w} {out} {i} G e room =
-    let all : take i chunk ≡ chunk = take_all i chunk (omega arith) in record {
-      lines = omega (arith, G.lines, e);
-      most = omega (arith, G.most, e);
-      within = omega (arith, G.most, G.long, e, room);
-      holds = λ m held.
-          let g = G.holds m held in
-          (subst (λ (l : List ℕ). Holds st (fed m l)) all g.0, subst (λ (l : List ℕ). take out.at out.out.now ≡ output m l) all g.1);
-    }

@@ -10,6 +10,7 @@ ghost use Rattle.session.specs.Wire.{Carried, Hears, Says};
 use std::io::{Read, Write};
 
 // Whether it is open: the input has not ended, and no write has failed. Whether it is whole: no write has failed. How many bytes were heard and said.
+// Two flags, since Conversed speaks of one and ConversedAt of the other.
 #[derive(Clone, Copy)]
 pub struct Wire {
     open: bool,

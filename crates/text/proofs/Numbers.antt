@@ -24,10 +24,6 @@ pub number_start : (w : List ℕ) → (length w ≡ 0 → ⊥) → number_of w �
 unfolding tail
 number_start w n = rw (nonempty_true w n)
 
-pub number_empty : (w : List ℕ) → length w ≡ 0 → number_of w ≡ None
-number_empty [] e = refl
-number_empty (c ∷ l) e = absurd (omega (arith, e))
-
 value_grows : (v : ℕ) (l : List ℕ) → v ≤ value_from v l
 unfolding value_from
 value_grows v [] = omega arith

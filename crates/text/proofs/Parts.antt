@@ -2,12 +2,11 @@
 use mathlib.Core.Path.{◌≡◌, refl, sym, ap, ◌∙◌}
 use mathlib.Core.Bool.{Bool, true, false, cond, not, true≢false}
 use mathlib.Core.List.{List, [], ◌∷◌, ◌++◌}
-use Prim.Native.Nat.{ℕ, suc, ◌+◌, ◌-◌, ◌<◌, ◌≤◌}
-use native.Mathlib.Numerals.{add-one, one-add}
+use Prim.Native.Nat.{ℕ, suc, ◌+◌, ◌-◌, ◌≤◌}
+use native.Mathlib.Numerals.{one-add}
 use native.Mathlib.Omega.{arith}
 use lib.Dec.{eqb}
-use lib.ListN.{length, take, drop, drop_of_length-le, length-drop, length-take, length-append}
-use lib.Seq.{drop-cons, drop-drop}
+use lib.ListN.{length, take, drop, length-drop, length-take, length-append}
 use borrow.Author.Tests.{eq-eqb, ne_eqb, eqb-true}
 use Rattle.std.specs.Prelude.{reverse}
 use Rattle.std.specs.List.{prefix_len}
@@ -49,19 +48,6 @@ pub parts_first : (l : List ℕ) → parts l ≡ take (part_length l) l ∷ part
 unfolding parts leading
 parts_first [] = refl
 parts_first (c ∷ l) = first_of (blank c) c l (parts l) (part_length l) refl (parts_first l)
-
-at_part : (l : List ℕ) (s : ℕ) → parts (drop s l) ≡ take (part_end l s - s) (drop s l) ∷ parts_left (drop (part_end l s) l)
-at_part l s =
-    let k : ℕ = part_length (drop s l) in
-    let e : s + k - s ≡ k = omega arith in
-    rw (e, parts_first (drop s l), drop-drop k s l)
-
--- the parts left at a place i of the line: the one that starts after it and ends at e, and those left at e
-pub left_step : (l : List ℕ) (i : ℕ) → i < length l → (e : ℕ) → e ≡ part_end l (i + 1) → parts_left (drop i l) ≡ take (e - (i + 1)) (drop (i + 1) l) ∷ parts_left (drop e l)
-left_step l i h e is = rw (is, drop-cons l i 0 h, ← add-one i) (at_part l (i + 1))
-
-pub left_none : (l : List ℕ) (i : ℕ) → length l ≤ i → parts_left (drop i l) ≡ []
-left_none l i h = rw (drop_of_length-le l h)
 
 -- ---- without the blanks at the end
 on_snoc : (c d : ℕ) (l : List ℕ) → on_front c (l ++ (d ∷ [])) ≡ c ∷ (l ++ (d ∷ []))
