@@ -1,9 +1,10 @@
--- A table's tiles are the strips of the picture that it shows: so a painting is all that the steps are handed.
+-- A table's tiles are the strips of the picture that it shows: so with a brush for its window it is a painting.
 use Prim.Native.Nat.{ℕ}
 use mathlib.Core.Path.{◌≡◌, subst}
 use mathlib.Core.List.{List}
 use Rattle.plane.specs.Plane.{Plane}
 use Rattle.plane.specs.Words.{count, height, tile_of, width}
+use Rattle.brush.specs.declared.brush.Brush.{Brush}
 use Rattle.brush.specs.Brush.{BrushIn, Canvas, Given, Shown}
 use Rattle.plane.proofs.Index.{later, mem_up_to}
 use Rattle.plane.proofs.ToTable.{plane_strips}
@@ -20,9 +21,10 @@ plane_shown ws P =
       cover = P.cover;
     }
 
--- of a painting's fields, and so of the painting
-pub brush_in : {c d : Canvas} → c ≡ d → BrushIn (width c.words) (height c.words) c.brush → BrushIn (width d.words) (height d.words) d.brush
-brush_in e B = subst (λ (x : Canvas). BrushIn (width x.words) (height x.words) x.brush) e B
+-- so a table and a brush for its window are a painting
+pub plane_given : {ws : List ℕ} {b : Brush} → Plane ws → BrushIn (width ws) (height ws) b → Given ws b
+plane_given {ws} P B = record { plane = P; shown = plane_shown ws P; brush = B }
 
-pub painting_given : {c d : Canvas} → c ≡ d → BrushIn (width c.words) (height c.words) c.brush → Plane c.words → Given d.words d.brush
-painting_given {c} {d} e B P = subst (λ (x : Canvas). Given x.words x.brush) e (record { plane = P; shown = plane_shown c.words P; brush = B })
+-- what is so of a painting's fields is so of the painting
+pub given_at : {c d : Canvas} → c ≡ d → Given c.words c.brush → Given d.words d.brush
+given_at e G = subst (λ (x : Canvas). Given x.words x.brush) e G

@@ -70,13 +70,6 @@ module _ {w h : ℕ} {q : Picture} where
     left_on p U k = flat_join R U k refl (omega (arith, R.here, U.here))
         (λ i z v. ⊎_elim (λ (o : i < r.left). inr (omega (arith, U.here))) (λ (o : r.left ≤ i). inl (omega arith)) (lt_or_ge i r.left))
 
-    pub left_stop : 0 < r.left → Flat w h q (r.left - 1) y u → (u.kind ≡ r.kind → ⊥)
-        → (r.right < w → (z : ℕ) → y ≤ z → z < r.top → q r.right z ≡ r.kind → ⊥)
-        → Steady w h q x y (record { left = r.left; bottom = r.bottom; right = r.right; top = m; kind = r.kind })
-    left_stop p U k g = flat_steady (lower R b (omega (arith, R.here, U.here)) (omega arith)) b
-        (λ o z c d e. k (sym (U.all (r.left - 1) z (omega (arith, U.here))) ∙ e))
-        (λ o z c d. g o z c (omega arith))
-
   -- what bounds it on the right still does
   pub left_again : {x y m : ℕ} {r u : Tile} → Rightward w h q x y r → m ≡ min r.top u.top → 0 < r.left → Flat w h q (r.left - 1) y u → u.kind ≡ r.kind
       → Rightward w h q x y (record { left = u.left; bottom = r.bottom; right = r.right; top = m; kind = r.kind })
@@ -115,9 +108,3 @@ up_unlike {w} {h} {q} {x} {y} {r} {p} R F U = record { steady = R; above = λ o 
     no (other_kind f) a = f (kind_is a)
     no (more_left u) a = a.start (omega arith) (F.all (r.left - 1) r.top (omega (arith, F.here)) ∙ kind_is a)
     no (more_right u) a = a.stop (omega (arith, F.box)) (F.all r.right r.top (omega (arith, F.here, R.box)) ∙ kind_is a)
-
--- the three ways to be unlike
-pub not_unlike : {p r : Tile} → p.kind ≡ r.kind → r.left ≤ p.left → p.right ≤ r.right → Unlike p r → ⊥
-not_unlike e u v (other_kind f) = f e
-not_unlike e u v (more_left o) = omega arith
-not_unlike e u v (more_right o) = omega arith

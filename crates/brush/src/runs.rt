@@ -44,7 +44,8 @@ impl<'a> Painting<'a> {
         r
     }
 
-    // The run of (x,y), and up to which row it stays so.
+    // The run of (x,y), and up to which row it stays so: the same to the left. The two ways are not one function, since bound, square and end
+    // of the step differ, and with them all of the loop but the comparison of types.
     pub fn run_at(&self, near: u16, x: u16, y: u16) -> Tile
         requires { Near self.now.words near x y }
         ensures { Steady (wide self.now) (tall self.now) (goal_of self.now) x y result }

@@ -52,7 +52,8 @@ fn test(before: Layout<'_>, work: &[u16], a: Area, kind: u16) -> Result<(), Refu
     Ok(())
 }
 
-// Paint, but for clearing the working room.
+// Paint, but for clearing the working room. The slices stand apart, as the public call and the entry for C lend them: two are written, and a
+// Layout only reads.
 fn paint_tables(
     material: &mut [u16],
     errors: &[u16],

@@ -1,5 +1,5 @@
 -- What is built: the strips in order that begin in the row above the area or lower, and behind them the tiles of the table that begin higher, are all the strips of the picture after, and so its tiles.
-use Prim.Native.Nat.{ℕ, suc, ◌+◌, ◌-◌, ◌*◌, ◌≤◌, ◌<◌, min, max}
+use Prim.Native.Nat.{ℕ, suc, ◌+◌, ◌-◌, ◌≤◌, ◌<◌, min, max}
 use native.Mathlib.Omega.{arith}
 use mathlib.Core.Path.{◌≡◌, sym, ◌∙◌, ap, subst}
 use mathlib.Core.Logic.{inl, ⊎_elim}
@@ -11,7 +11,7 @@ use Rattle.plane.specs.Strips.{Holds, Strip, Strips}
 use Rattle.plane.specs.Words.{count, height, picture_of, tile_of, up_to, width}
 use Rattle.brush.specs.declared.brush.Brush.{Brush}
 use Rattle.brush.specs.Brush.{Given, goal}
-use Rattle.strips.specs.Cover.{AllBuilt, AllUnder, CoveredBy, Grown, Kept, LowTo, TooMany, Untouched, Working, ZoneCovered, above_it, left_of, right_of}
+use Rattle.strips.specs.Cover.{AllBuilt, AllUnder, CoveredBy, Grown, Kept, LowTo, TooMany, Untouched, ZoneCovered, above_it, left_of, right_of}
 use Rattle.slots.specs.Slots.{Appended, Has}
 use Rattle.plane.proofs.Basics.{lt_or_ge}
 use Rattle.plane.proofs.Index.{length_up_to, mem_up_to, ordered_up_to, up_to_append, up_to_mem}
@@ -106,10 +106,6 @@ module _ {ws us vs : List ℕ} {b : Brush} {j k m : ℕ} (I : Given ws b) (L : L
 
   all_built : up_to m (tile_of vs) ++ up_to (count ws - j) (tile_from ws j) ≡ tiles (width ws) (height ws) (goal ws b)
   all_built = strips_are_tiles (width ws) (height ws) (goal ws b) _ all_strips
-
--- what keep leaves is what the zone's cover is handed
-pub kept_working : {ws us : List ℕ} {b : Brush} {j k room : ℕ} → LowTo ws b.area j → Kept ws b us j k → count ws ≤ room → 4 + 9 * room ≤ length us → Working (width ws) (height ws) (goal ws b) us k room
-kept_working L K u v = record { few = omega (arith, K.few, L.most); long = v; part = K.part }
 
 pub kept_under : {ws us : List ℕ} {b : Brush} {j k : ℕ} → Given ws b → LowTo ws b.area j → Kept ws b us j k → AllUnder us k (width ws) b.area.y1
 kept_under I L K i z u v = kept_low I L K i z u (omega (arith, I.brush)) v

@@ -163,15 +163,6 @@ module _ {ws us : List ℕ} {b : Brush} {i m : ℕ} (K : Kept ws b us i m) where
         start : {t t' u : Tile} → t ≡ t' → SameStart t' u → SameStart t u
         start {t} {t'} {u} e r = subst (λ (z : Tile). SameStart z u) (sym e) r
 
-pub kept_none : (ws : List ℕ) (b : Brush) (us : List ℕ) → Kept ws b us 0 0
-kept_none ws b us = record {
-  few = omega arith;
-  part = record { each = λ i u. absurd (omega arith); order = λ i j u v. absurd (omega arith) };
-  from = λ j u. absurd (omega arith);
-  apart = λ k u A. absurd (omega arith);
-  low = λ k u b. absurd (omega arith);
-}
-
 -- ---- the tiles of the table that begin low are those before the end of the row above the area
 pub low_to : {ws : List ℕ} (a : Area) {n j : ℕ} {s : Tile} → Shown ws → Past (width ws) a.y2 s → n ≡ count ws → PlaceOf ws n s j → LowTo ws a j
 low_to {ws} a {n} {j} {s} G e q P = record {
@@ -216,17 +207,6 @@ kept_low {ws} {us} {b} {j} {m} I L K x y hx hy o =
         (subst (λ (n : ℕ). Run w (after p b) n u.right u.kind u.top) (sym e.0) (subst (λ (n : ℕ). Run w (after p b) s.left n u.kind u.top) (sym e.1) (subst (λ (n : ℕ). Run w (after p b) s.left s.right n u.top) (sym e.2)
         (run_low b (omega arith) S.box.wide (S.rows u.top (omega arith) (omega arith)))))))) (lt_or_ge y u.top) in
         record { from_left = omega (arith, e.0); to_right = omega (arith, e.1); from_bottom = omega arith; to_top = up }
-
--- the four ways to be untouched
-pub not_apart : {t : Tile} {a : Area} → a.x1 ≤ t.right → t.left ≤ a.x2 → a.y1 ≤ t.top → t.bottom ≤ a.y2 → Untouched t a → ⊥
-not_apart b c d e (left_of u) = omega arith
-not_apart b c d e (right_of u) = omega arith
-not_apart b c d e (below_it u) = omega arith
-not_apart b c d e (above_it u) = omega arith
-
--- the same at a tile that was read
-pub strip_in : {w h : ℕ} {p : Picture} {s s' : Tile} → Strip w h p s → s' ≡ s → (s'.left < w) × (s'.bottom < h)
-strip_in {w} {h} S e = subst (λ (z : Tile). (z.left < w) × (z.bottom < h)) (sym e) (omega (arith, S.box))
 
 pub keep_low : {w h : ℕ} {p : Picture} (b : Brush) {s s' u : Tile} → Strip w h p s → s' ≡ s → s'.bottom < b.area.y1 → Upward w h (after p b) s'.left s'.bottom u → Strip w h (after p b) u × SameStart u s
 keep_low {w} {h} {p} b {s} {s'} {u} S e o U =

@@ -1,32 +1,25 @@
 // The rebuild, by covering: of the tiles that begin in the row above the area or lower, those that the area does not touch and those that
 // begin below it are kept; then every square in and beside the area that no tile holds has its strip put in; and the tiles that begin
-// higher, which come after all these, are put behind. Where there are more strips than room, there is no answer.
-ghost use Rattle.std.specs.Prelude.{◌≡◌, ◌+◌, ◌*◌, ◌-◌, ◌<◌, ◌≤◌, min, length};
+// higher, which come after all these, are put behind. Where there are more strips than room, there is no answer. The painting, the working
+// slice and its room stand apart: a struct that held the lent slice would have to say in each contract that it still holds that slice.
+ghost use Rattle.std.specs.Prelude.{IfSome, ◌≡◌, ◌+◌, ◌*◌, ◌-◌, ◌<◌, ◌≤◌, min, length};
 ghost use Rattle.plane.specs.Words.{count, Says};
-ghost use Rattle.brush.specs.Brush.{Given, Near, wide, tall, goal_of};
-ghost use Rattle.strips.specs.Cover.{SpotOf, Untouched, LowTo, Kept, Working, RowUnder, AllUnder, Covers, CoversRow, CoversZone, Built};
+ghost use Rattle.brush.specs.Brush.{Near, wide, tall, goal_of};
+ghost use Rattle.strips.specs.Cover.{Untouched, LowTo, Kept, Working, RowUnder, AllUnder, Covers, CoversRow, CoversZone, Built};
 
 use brush::painting::Painting;
 use plane::tile::{Area, Tile};
 use slots::slots::{Slots, append, insert, past, put_tile};
 
-// A number of tiles, and the right end and the top of one of them.
+// How far a row is covered: by how many tiles, to where and up to which row; and where the next look-up begins, at a tile of the table and at
+// a guess at the tile under the square.
 #[derive(Clone, Copy)]
 pub struct Spot {
     pub count: usize,
     pub right: u16,
     pub top: u16,
-}
-
-// The spot of n tiles and tile s.
-pub fn spot_of(n: usize, s: Tile) -> Spot
-    ensures { SpotOf n s result }
-{
-    Spot {
-        count: n,
-        right: s.right,
-        top: s.top,
-    }
+    pub near: u16,
+    pub guess: usize,
 }
 
 // Does the tile not touch the area, by a side or a corner?
@@ -77,70 +70,66 @@ pub fn keep(p: &Painting<'_>, work: &mut [u16], n: u16) -> usize
     m
 }
 
-// Has (x,y) covered: finds its tile in the working slice, from a guess k at the tile under it, or puts its strip there.
-pub fn cover(
-    p: &Painting<'_>,
-    work: &mut [u16],
-    n: usize,
-    room: usize,
-    x: u16,
-    y: u16,
-    near: u16,
-    k: usize,
-) -> Option<Spot>
-    requires given { Given p.now.words p.now.brush }
-    requires near { Near p.now.words near x y }
-    requires working { Working (wide p.now) (tall p.now) (goal_of p.now) work.old n room }
-    requires row_under { RowUnder work.old n x (x + 1) y }
-    ensures { Covers (wide p.now) (tall p.now) (goal_of p.now) room work.old n x y work.new result }
+// Has the square right of the spot covered: finds its tile in the working slice, or puts its strip there. The spot of that tile.
+pub fn cover(p: &Painting<'_>, work: &mut [u16], room: usize, at: Spot, y: u16) -> Option<Spot>
+    requires near { Near p.now.words at.near at.right y }
+    requires working { Working (wide p.now) (tall p.now) (goal_of p.now) work.old at.count room }
+    requires row_under { RowUnder work.old at.count at.right (at.right + 1) y }
+    ensures covers { Covers (wide p.now) (tall p.now) (goal_of p.now) room work.old at.count at.right y work.new result }
+    ensures near { IfSome result (λ r. r.near < count p.now.words) }
 {
+    let x = at.right;
+    let near = p.seek(at.near, x, y);
     let tiles = Slots {
         words: work,
-        count: n,
+        count: at.count,
     };
-    if let Some(i) = tiles.find_low(k, x, y) {
-        return Some(spot_of(n, tiles.nth(i)));
+    let guess = tiles.under(at.guess, x, y);
+    if let Some(i) = tiles.find_low(guess, x, y) {
+        let s = tiles.nth(i);
+        return Some(Spot {
+            count: at.count,
+            right: s.right,
+            top: s.top,
+            near,
+            guess,
+        });
     }
-    if room <= n {
+    if room <= at.count {
         return None;
     }
     let s = p.strip_at(near, x, y);
-    insert(work, n, s);
-    Some(spot_of(n + 1, s))
+    insert(work, at.count, s);
+    Some(Spot {
+        count: at.count + 1,
+        right: s.right,
+        top: s.top,
+        near,
+        guess,
+    })
 }
 
-// Has the squares x .. e-1 of row y covered.
+// Has the squares of row y from the right of a spot up to e covered, and the lowest top of their tiles.
 pub fn cover_row(
     p: &Painting<'_>,
     work: &mut [u16],
-    n: usize,
     room: usize,
-    x: u16,
+    from: Spot,
     e: u16,
     y: u16,
-    near: u16,
 ) -> Option<Spot>
-    requires near_bound { (near < count p.now.words) × (e ≤ wide p.now) × (y < tall p.now) }
-    requires working { Working (wide p.now) (tall p.now) (goal_of p.now) work.old n room }
-    requires row_under { RowUnder work.old n x e y }
-    ensures { CoversRow (wide p.now) (tall p.now) (goal_of p.now) room work.old n x e y work.new result }
+    requires near_bound { (from.near < count p.now.words) × (e ≤ wide p.now) × (y < tall p.now) }
+    requires working { Working (wide p.now) (tall p.now) (goal_of p.now) work.old from.count room }
+    requires row_under { RowUnder work.old from.count from.right e y }
+    ensures { CoversRow (wide p.now) (tall p.now) (goal_of p.now) room work.old from.count from.right e y work.new result }
 {
     let mut r = Spot {
-        count: n,
-        right: x,
         top: p.height(),
+        ..from
     };
-    let mut i = near;
-    let mut k = n;
     // A while loop: the step is the end of the tile that covers the square, not one.
     while r.right < e {
-        i = p.seek(i, r.right, y);
-        let tiles = Slots {
-            words: work,
-            count: r.count,
-        };
-        k = tiles.under(k, r.right, y);
-        let u = cover(p, work, r.count, room, r.right, y, i, k)?;
+        let u = cover(p, work, room, r, y)?;
         r = Spot {
             top: r.top.min(u.top),
             ..u
@@ -160,12 +149,19 @@ pub fn cover_zone(p: &Painting<'_>, work: &mut [u16], n: usize, room: usize) -> 
     let e = p.width().min(a.x2 + 1);
     let f = p.height().min(a.y2 + 1);
     let mut m = n;
-    let mut i = 0;
+    let mut near = 0;
     let mut y = a.y1;
     // A while loop: the step is the top of the rows that are covered, not one.
     while y < f {
-        i = p.seek(i, x, y);
-        let s = cover_row(p, work, m, room, x, e, y, i)?;
+        near = p.seek(near, x, y);
+        let from = Spot {
+            count: m,
+            right: x,
+            top: y,
+            near,
+            guess: m,
+        };
+        let s = cover_row(p, work, room, from, e, y)?;
         m = s.count;
         y = s.top;
     }

@@ -7,7 +7,7 @@ use Rattle.strips.proofs.Covers.{RowSoFar}
 use Rattle.strips.proofs.cover.cover_row.Given as goal
 
 abbrev pub invariant-loop-r : goal.invariant-loop-r
-invariant-loop-r l = (length l.work ≡ length l.initial.work) × (l.i < count l.p.words) × RowSoFar (width l.p.words) (height l.p.words) (goal l.p.words l.p.brush) l.room l.initial.work l.n l.x l.y l.work l.r
+invariant-loop-r l = (length l.work ≡ length l.initial.work) × (l.r.near < count l.p.words) × RowSoFar (width l.p.words) (height l.p.words) (goal l.p.words l.p.brush) l.room l.initial.work l.fn.from.count l.fn.from.right l.y l.work l.r
 
 abbrev pub decreases-loop-r : goal.decreases-loop-r
 decreases-loop-r l = l.e - l.r.right

@@ -7,7 +7,7 @@ use Rattle.strips.proofs.Covers.{ZoneSoFar}
 use Rattle.strips.proofs.cover.cover_zone.Given as goal
 
 abbrev pub invariant-loop-y : goal.invariant-loop-y
-invariant-loop-y l = (length l.work ≡ length l.initial.work) × (l.i < count l.p.words) × ZoneSoFar (width l.p.words) (height l.p.words) (goal l.p.words l.p.brush) l.room l.initial.work l.n l.x l.e (min (l.p.brush.area.y2 + 1) (height l.p.words)) l.y l.work l.m
+invariant-loop-y l = (length l.work ≡ length l.initial.work) × (l.near < count l.p.words) × ZoneSoFar (width l.p.words) (height l.p.words) (goal l.p.words l.p.brush) l.room l.initial.work l.n l.x l.e (min (l.p.brush.area.y2 + 1) (height l.p.words)) l.y l.work l.m
 
 abbrev pub decreases-loop-y : goal.decreases-loop-y
 decreases-loop-y l = l.f - l.y

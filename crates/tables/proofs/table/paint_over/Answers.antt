@@ -1,12 +1,16 @@
 -- Too many tiles, or tiles, stitches and header made and taken over, by `finished`.
 use mathlib.Core.Path.{sym, ◌∙◌}
 use native.Mathlib.Omega.{arith}
+use Rattle.brush.proofs.Shows.{plane_given}
 use Rattle.tables.proofs.Finish.{built_tight, finished}
 use Rattle.tables.proofs.Whole.{may_plane, may_room, painted_done}
 use Rattle.tables.proofs.table.paint_over.Goals as goal
 
 pub of-table-requires : goal.of-table-requires
 of-table-requires c = may_plane c.requires.may_paint
+
+pub of-requires : goal.of-requires
+of-requires c = rw c.of-table.ensures (plane_given (may_plane c.requires.may_paint) c.requires.may_paint.brush)
 
 pub rebuild-requires : goal.rebuild-requires
 rebuild-requires c = let m = may_room c.requires.may_paint in rw (c.of.ensures, c.of-table.ensures) (record { work_len = (c.requires.work_len, omega (arith, m.0), m.1) })

@@ -9,4 +9,4 @@ pub returns-then-not-same_span : goal.returns-then-not-same_span
 returns-then-not-same_span c = up_stop c.loop-r.invariant.2 c.run_at-u.ensures (rw c.if-not-same_span.true at c.same_span.ensures)
 
 pub loop-r-preserved : goal.loop-r-preserved
-loop-r-preserved c = (c.loop-r.invariant.0, c.seek-k.ensures.counted, up_on c.loop-r.invariant.2 c.run_at-u.ensures (rw c.if-not-same_span.false at c.same_span.ensures))
+loop-r-preserved c = (c.loop-r.invariant.0, c.seek-k.ensures.names.counted, up_on c.loop-r.invariant.2 c.run_at-u.ensures (rw c.if-not-same_span.false at c.same_span.ensures))
