@@ -1,6 +1,6 @@
 // The four sides of a tile.
 ghost use Rattle.std.specs.Prelude.{◌≡◌};
-ghost use Rattle.plane.specs.Sides.{SideNumbered, side_line, side_start, side_end};
+ghost use Rattle.plane.specs.Sides.{SideNumbered, side_start, side_end};
 
 use crate::answer::Refusal;
 use crate::tile::Tile;
@@ -32,18 +32,6 @@ impl TryFrom<u16> for Side {
 }
 
 impl Tile {
-    // The column or the row at which a side lies.
-    pub fn side_line(self, side: Side) -> u16
-        ensures { result ≡ side_line self side }
-    {
-        match side {
-            Side::Left => self.left,
-            Side::Bottom => self.bottom,
-            Side::Right => self.right,
-            Side::Top => self.top,
-        }
-    }
-
     // Where a side starts, from below or from the left.
     pub fn side_start(self, side: Side) -> u16
         ensures { result ≡ side_start self side }
