@@ -16,8 +16,8 @@ use Rattle.plane.proofs.FromTable.{tiles_agree}
 use Rattle.plane.proofs.Tiling.{tiles_few}
 use Rattle.tables.specs.Like.{table_like}
 use Rattle.rules.specs.Words.{halo_of, rules_of}
-use Rattle.waits.specs.declared.waits.Block.{Block}
-use Rattle.waits.specs.declared.waits.Block.TheVariants.{At, Nothing}
+use Rattle.std.specs.Prelude.{Option, Some, None}
+use Rattle.waits.specs.declared.block.Block.{Block}
 use Rattle.piece.proofs.Counts.{nothing_waits}
 use Rattle.sweep.specs.Run.{Run, after_block, check_run, checked_piece, fits_block, lowest_of, piece_errors, piece_fits, piece_waiting, turn, waiting_of, CheckLeft}
 use Rattle.checker.specs.Check.{Checked, check_refusals}
@@ -94,11 +94,11 @@ module _ {rules : List ℕ} {used : ℕ} where
       and_both (leb (length (tiles (width l.errors) (height l.errors) (piece_errors l (rules_of rules used) (halo_of rules used) bx by))) (room l)) (leb (length (tiles (width l.waiting) (height l.waiting) (piece_waiting l bx by))) (room l))
       (marks_fit l u F.tables.errors (piece_errors l (rules_of rules used) (halo_of rules used) bx by)) (marks_fit l u F.tables.waiting (piece_waiting l bx by))
 
-  turn_roomy : (l : Layout) (b : Block) (f : Bool) (next : Layout → Run) → Fit l rules used → Roomy l → b ≡ lowest_of l → fits_block l (rules_of rules used) (halo_of rules used) b ≡ f
+  turn_roomy : (l : Layout) (b : Option Block) (f : Bool) (next : Layout → Run) → Fit l rules used → Roomy l → b ≡ lowest_of l → fits_block l (rules_of rules used) (halo_of rules used) b ≡ f
       → ((m : Layout) → Fit m rules used → Roomy m → (next m).number ≡ 0) → (turn b f l (next (after_block l (rules_of rules used) (halo_of rules used) b))).number ≡ 0
-  turn_roomy l Nothing f next F u e g ih = refl
-  turn_roomy l (At bx by) true next F u e g ih = ih (checked_piece l (rules_of rules used) (halo_of rules used) bx by) (piece_fit (record { fit = F; lowest = e; fits = g })) u
-  turn_roomy l (At bx by) false next F u e g ih = absurd (true≢false (sym (roomy_fits F u bx by) ∙ g))
+  turn_roomy l None f next F u e g ih = refl
+  turn_roomy l (Some b) true next F u e g ih = ih (checked_piece l (rules_of rules used) (halo_of rules used) b.x b.y) (piece_fit (record { fit = F; lowest = e; fits = g })) u
+  turn_roomy l (Some b) false next F u e g ih = absurd (true≢false (sym (roomy_fits F u b.x b.y) ∙ g))
 
   run_roomy : (n : ℕ) (l : Layout) → Fit l rules used → Roomy l → (check_run n (rules_of rules used) (halo_of rules used) l).number ≡ 0
   unfolding check_run

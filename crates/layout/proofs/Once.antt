@@ -1,10 +1,11 @@
 -- Each call has one outcome: two that meet its statement have the same answer and leave the same words. An answer is known by its numbers.
 use Prim.Native.Nat.{ℕ, zero, suc}
-use mathlib.Core.Bool.{Bool, cond}
+use mathlib.Core.Bool.{Bool, true, false, cond}
 use mathlib.Core.Path.{◌≡◌, refl, sym, ◌∙◌, ap}
 use mathlib.Core.List.{List}
 use lib.Dec.{eqb}
-use Rattle.plane.specs.declared.answer.Answer.{Answer}
+use Rattle.std.specs.Prelude.{Result, Ok, Err}
+use Rattle.plane.specs.declared.answer.Refusal.{Refusal}
 use Rattle.plane.specs.declared.tile.Area.{Area}
 use Rattle.plane.specs.Answers.{number}
 use Rattle.plane.specs.Refusal.{if_done, lowest_once, outcome_once}
@@ -14,10 +15,12 @@ use Rattle.rules.specs.declared.rule.Rule.{Rule}
 use Rattle.macros.specs.Expansion.{RuleList, Expanded, Widened, Spaced}
 use Rattle.rules.specs.Vetting.{lowest_bad}
 use Rattle.rules.specs.Words.{halo_of, rules_of}
-use Rattle.checker.specs.declared.check.CheckAnswer.{CheckAnswer}
-use Rattle.checker.specs.declared.check.CheckAnswer.TheVariants as check
-use Rattle.sheet.specs.declared.report.ReportAnswer.{ReportAnswer}
-use Rattle.sheet.specs.declared.report.ReportAnswer.TheVariants as report
+use Rattle.checker.specs.declared.check.Progress.{Progress}
+use Rattle.checker.specs.declared.check.CheckError.{CheckError}
+use Rattle.checker.specs.declared.check.CheckError.TheVariants as check
+use Rattle.sheet.specs.declared.report.Found.{Found}
+use Rattle.sheet.specs.declared.report.ReportError.{ReportError}
+use Rattle.sheet.specs.declared.report.ReportError.TheVariants as report
 use Rattle.sheet.specs.Answers.{report_number, report_place, report_settled, report_squares, report_tiles, found_by}
 use Rattle.checker.specs.Answers.{check_number, check_place, check_done, check_left}
 use Rattle.sheet.specs.Layout.{Layout}
@@ -32,7 +35,7 @@ use Rattle.layout.specs.Pack.{pack_report, pack_point, pack_macro, pack_check, R
 pub c_create_once : {before after after' : Layout} {w h t r r' : ℕ} → Created before w h t r after → Created before w h t r' after' → (r ≡ r') × (after ≡ after')
 c_create_once p q = outcome_once p.outcome q.outcome
 
-pub create_once : {before after after' : Layout} {w h t : ℕ} (r r' : Answer)
+pub create_once : {before after after' : Layout} {w h t : ℕ} (r r' : Result (Unit {0}) Refusal)
     → Created before w h t (number r) after → Created before w h t (number r') after' → (r ≡ r') × (after ≡ after')
 create_once r r' p q = let e = c_create_once p q in (number_once r r' e.0, e.1)
 
@@ -41,27 +44,27 @@ pub c_paint_once : {before after after' : Layout} {work left left' : List ℕ} {
     → Painted before work a kind r after left → Painted before work a kind r' after' left' → (r ≡ r') × (after ≡ after') × (left ≡ left')
 c_paint_once p q = let e = outcome_once p.outcome q.outcome in (e.0, e.1, p.zero ∙ sym q.zero)
 
-pub paint_once : {before after after' : Layout} {work left left' : List ℕ} {a : Area} {kind : ℕ} (r r' : Answer)
+pub paint_once : {before after after' : Layout} {work left left' : List ℕ} {a : Area} {kind : ℕ} (r r' : Result (Unit {0}) Refusal)
     → Painted before work a kind (number r) after left → Painted before work a kind (number r') after' left' → (r ≡ r') × (after ≡ after') × (left ≡ left')
 paint_once r r' p q = let e = c_paint_once p q in (number_once r r' e.0, e.1, e.2)
 
 -- ---- check
 -- an answer is known by its numbers
-check_of : ℕ → ℕ → ℕ → ℕ → CheckAnswer
-check_of zero p d l = check.Done d l
-check_of (suc zero) p d l = check.Lengths
-check_of (suc (suc zero)) p d l = check.Lengths
-check_of (suc (suc (suc zero))) p d l = check.NoTable
-check_of (suc (suc (suc (suc zero)))) p d l = check.BadRule p
-check_of (suc (suc (suc (suc (suc n))))) p d l = check.Full d l
+check_of : ℕ → ℕ → ℕ → ℕ → Result Progress CheckError
+check_of zero p d l = Ok (record { done = d; left = l })
+check_of (suc zero) p d l = Err check.Lengths
+check_of (suc (suc zero)) p d l = Err check.Lengths
+check_of (suc (suc (suc zero))) p d l = Err check.NoTable
+check_of (suc (suc (suc (suc zero)))) p d l = Err (check.BadRule p)
+check_of (suc (suc (suc (suc (suc n))))) p d l = Err (check.Full (record { done = d; left = l }))
 
-check_known : (a : CheckAnswer) → check_of (check_number a) (check_place a) (check_done a) (check_left a) ≡ a
+check_known : (a : Result Progress CheckError) → check_of (check_number a) (check_place a) (check_done a) (check_left a) ≡ a
 unfolding check_of
-check_known (check.Done d l) = refl
-check_known (check.Full d l) = refl
-check_known (check.BadRule i) = refl
-check_known check.Lengths = refl
-check_known check.NoTable = refl
+check_known (Ok p) = refl
+check_known (Err check.Lengths) = refl
+check_known (Err check.NoTable) = refl
+check_known (Err (check.BadRule i)) = refl
+check_known (Err (check.Full p)) = refl
 
 -- two checks have the same numbers and leave the same words
 pub checks_once : {before after after' : Layout} {work rules zeros zeros' : List ℕ} {used n a a' p p' d d' f f' : ℕ}
@@ -72,7 +75,7 @@ checks_once {before} {work = work} {rules = rules} {used = used} {n = n} P Q =
     let e = P.leaves ∙ (ap {B = CheckLeft} (λ (m : ℕ). if_done m (ran_check (check_run n (rules_of rules used) (halo_of rules used) before)) (refused_check m before)) t ∙ sym Q.leaves) in
     (e, P.lowest ∙ (ap (λ (x : CheckLeft). cond (eqb x.number 4) (lowest_bad rules used (kinds before.material)) 0) e ∙ sym Q.lowest), P.zero ∙ sym Q.zero)
 
-pub check_once : {before after after' : Layout} {work rules zeros zeros' : List ℕ} {used n : ℕ} (r r' : CheckAnswer)
+pub check_once : {before after after' : Layout} {work rules zeros zeros' : List ℕ} {used n : ℕ} (r r' : Result Progress CheckError)
     → Checked before work rules used n (check_number r) (check_place r) (check_done r) (check_left r) after zeros
     → Checked before work rules used n (check_number r') (check_place r') (check_done r') (check_left r') after' zeros'
     → (r ≡ r') × (after ≡ after') × (zeros ≡ zeros')
@@ -89,24 +92,28 @@ c_check_once P Q =
 
 -- ---- report
 -- an answer is known by its numbers
-report_of : ℕ → ℕ → ℕ → ℕ → ℕ → ReportAnswer
-report_of zero p s q n = report.Found s q n
-report_of (suc zero) p s q n = report.Lengths
-report_of (suc (suc zero)) p s q n = report.Lengths
-report_of (suc (suc (suc zero))) p s q n = report.NoTable
-report_of (suc (suc (suc (suc zero)))) p s q n = report.BadRule p
-report_of (suc (suc (suc (suc (suc zero))))) p s q n = report.NoPlace
-report_of (suc (suc (suc (suc (suc (suc zero)))))) p s q n = report.NoPlace
-report_of (suc (suc (suc (suc (suc (suc (suc m))))))) p s q n = report.Full
+report_of : ℕ → ℕ → ℕ → ℕ → ℕ → Result Found ReportError
+report_of zero p s q n = Ok (record { settled = eqb s 1; squares = q; tiles = n })
+report_of (suc zero) p s q n = Err report.Lengths
+report_of (suc (suc zero)) p s q n = Err report.Lengths
+report_of (suc (suc (suc zero))) p s q n = Err report.NoTable
+report_of (suc (suc (suc (suc zero)))) p s q n = Err (report.BadRule p)
+report_of (suc (suc (suc (suc (suc zero))))) p s q n = Err report.Place
+report_of (suc (suc (suc (suc (suc (suc zero)))))) p s q n = Err report.Place
+report_of (suc (suc (suc (suc (suc (suc (suc m))))))) p s q n = Err report.Full
 
-report_known : (r : ReportAnswer) → report_of (report_number r) (report_place r) (report_settled r) (report_squares r) (report_tiles r) ≡ r
+settled_known : (b : Bool) → eqb (cond b 1 0) 1 ≡ b
+settled_known true = refl
+settled_known false = refl
+
+report_known : (r : Result Found ReportError) → report_of (report_number r) (report_place r) (report_settled r) (report_squares r) (report_tiles r) ≡ r
 unfolding report_of
-report_known (report.Found s q n) = refl
-report_known report.Lengths = refl
-report_known report.NoTable = refl
-report_known (report.BadRule i) = refl
-report_known report.NoPlace = refl
-report_known report.Full = refl
+report_known (Ok f) = λ i. Ok (record { settled = settled_known f.settled i; squares = f.squares; tiles = f.tiles })
+report_known (Err report.Lengths) = refl
+report_known (Err report.NoTable) = refl
+report_known (Err (report.BadRule i)) = refl
+report_known (Err report.Place) = refl
+report_known (Err report.Full) = refl
 
 -- two reports have the same number, place and findings
 pub reports_once : {l : Layout} {rules : List ℕ} {used : ℕ} {a : Area} {out : List ℕ} {n n' p p' : ℕ} {f f' : Findings}
@@ -115,7 +122,7 @@ reports_once {l} {rules} {used} P Q =
     let e = outcome_once P.outcome Q.outcome in
     (e.0, P.lowest ∙ (ap (λ (n : ℕ). cond (eqb n 4) (lowest_bad rules used (kinds l.material)) 0) e.0 ∙ sym Q.lowest), e.1)
 
-pub report_once : {l : Layout} {rules : List ℕ} {used : ℕ} {a : Area} {out after after' : List ℕ} (r r' : ReportAnswer)
+pub report_once : {l : Layout} {rules : List ℕ} {used : ℕ} {a : Area} {out after after' : List ℕ} (r r' : Result Found ReportError)
     → Reported l rules used a out (report_number r) (report_place r) (found_by r after) → Reported l rules used a out (report_number r') (report_place r') (found_by r' after') → (r ≡ r') × (after ≡ after')
 report_once r r' P Q =
     let e = reports_once P Q in

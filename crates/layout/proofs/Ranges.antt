@@ -24,8 +24,8 @@ use Rattle.macros.specs.Expansion.{RuleList, macro_refusals, Expanded}
 use Rattle.rules.specs.Vetting.{AllSound, lowest_bad}
 use Rattle.rules.specs.Words.{halo_of, rules_of}
 use Rattle.rules.proofs.Vetted.{lowest}
-use Rattle.waits.specs.declared.waits.Block.{Block}
-use Rattle.waits.specs.declared.waits.Block.TheVariants.{At, Nothing}
+use Rattle.std.specs.Prelude.{Option, Some, None}
+use Rattle.waits.specs.declared.block.Block.{Block}
 use Rattle.waits.specs.Pieces.{blocks, piece_waits, pieces, waiting_pieces}
 use Rattle.sheet.specs.Layout.{Layout}
 use Rattle.sheet.specs.Report.{around, settled, Findings, no_findings, findings, report_refusals, Reported}
@@ -142,10 +142,10 @@ pieces_few w h p u v =
     )
 
 -- a run's number is 0 or 7
-turn_number : (b : Block) (f : Bool) (l : Layout) (r : Run) → (r.number ≡ 0) ⊎ (r.number ≡ 7) → ((turn b f l r).number ≡ 0) ⊎ ((turn b f l r).number ≡ 7)
-turn_number Nothing f l r e = inl refl
-turn_number (At bx by) true l r e = e
-turn_number (At bx by) false l r e = inr refl
+turn_number : (b : Option Block) (f : Bool) (l : Layout) (r : Run) → (r.number ≡ 0) ⊎ (r.number ≡ 7) → ((turn b f l r).number ≡ 0) ⊎ ((turn b f l r).number ≡ 7)
+turn_number None f l r e = inl refl
+turn_number (Some b) true l r e = e
+turn_number (Some b) false l r e = inr refl
 
 run_number : (n : ℕ) (rs : List Rule) (k : ℕ) (l : Layout) → ((check_run n rs k l).number ≡ 0) ⊎ ((check_run n rs k l).number ≡ 7)
 unfolding check_run

@@ -1,4 +1,4 @@
--- What is said of a layout over time, document 01's worked squares, and the numbers that C is given.
+-- What is said of a layout over time, worked squares, and the numbers that C is given.
 pub mod Pack
 pub mod History
 pub mod Worked

@@ -1,4 +1,4 @@
--- The starred lines of document 01's worked squares as one list, in its order, and the one claim that all of them hold, by computing.
+-- Worked squares: small drawings whose tables, errors and counts of pieces were found by hand, as one list, and the one claim that all of them hold, by computing.
 -- Each is run on the tables' words, through what the calls' statements are made of: fresh, painted_layout, the macros, check_run, and the full check's errors.
 use Rattle.std.specs.Prelude.{ℕ, Bool, cond, ◌&&◌, ◌≡◌, refl, List, [], ◌∷◌, eqb, leb, length}
 use Rattle.plane.specs.declared.tile.Area.{Area}
@@ -97,7 +97,7 @@ unfoldable pub wide : List Rule
 unfolding width
 wide = width 2 2 2 0
 
--- the starred lines; a table is a header of four words, and nine words a tile
+-- the lines; a table is a header of four words, and nine words a tile
 abbrev pub lines : List Line
 lines =
     table_is (record { w = 4; h = 2; t = 2; room = 3; paints = (area 1 0 2 2, 1) ∷ [] }) (3 ∷ 4 ∷ 2 ∷ 2 ∷

@@ -1,8 +1,7 @@
-// The calls as C sees them: numbers and slices of words, and one number returned. Bits 0 to 7 are the paper's number, and the others are laid out as specs/Pack says.
-ghost use Rattle.std.specs.Prelude.{◌≡◌, ◌≤◌};
-ghost use Rattle.plane.specs.Answers.{point_number, point_tile};
+// The calls as C sees them: numbers and slices of words, and one number returned. Bits 0 to 7 are the answer's number, and the others are laid out as specs/Pack says.
+ghost use Rattle.std.specs.Prelude.{◌≡◌, ◌≤◌, ◌<◌};
+ghost use Rattle.plane.specs.Answers.{number, value};
 ghost use Rattle.plane.specs.Picture.{area};
-ghost use Rattle.macros.specs.Made.{macro_number, macro_used};
 ghost use Rattle.macros.specs.Expansion.{Widened, Spaced};
 ghost use Rattle.sheet.specs.Answers.{report_number, report_place, report_settled, report_squares, report_tiles};
 ghost use Rattle.checker.specs.Answers.{check_number, check_place, check_done, check_left};
@@ -12,68 +11,59 @@ ghost use Rattle.layout.specs.Pack.{pack_check, NarrowCheck, CheckPacked, pack_r
 ghost use Rattle.drawing.specs.Paint.{Painted};
 
 use ask::handle::point;
-use checker::check::{CheckAnswer, check};
+use checker::check::{CheckError, Progress, check};
 use drawing::create::create;
 use drawing::painting::paint;
-use macros::macros::{MacroAnswer, spacing, width};
-use plane::answer::{Point, answer_number, refusal_number};
+use macros::macros::{spacing, width};
+use plane::answer::{Refusal, answer_number};
 use plane::tile::Area;
-use plane::words::wide;
-use sheet::report::{ReportAnswer, report};
+use rules::list::RuleList;
+use sheet::report::{Found, ReportError, report};
+use sheet::shape::Layout;
 
 // A report's answer in one number.
-fn pack_report(r: ReportAnswer) -> u64
+fn pack_report(r: Result<Found, ReportError>) -> u64
     requires { Narrow (report_place r) (report_settled r) (report_squares r) (report_tiles r) }
     ensures { result ≡ pack_report (report_number r) (report_place r) (report_settled r) (report_squares r) (report_tiles r) }
 {
     match r {
-        ReportAnswer::Found {
-            settled,
-            squares,
-            tiles,
-        } => {
-            131072 * (settled as u64) + 262144 * (squares as u64) + 8796093022208 * (tiles as u64)
+        Ok(found) => {
+            131072 * u64::from(found.settled)
+                + 262144 * (found.squares as u64)
+                + 8796093022208 * (found.tiles as u64)
         }
-        ReportAnswer::Lengths => 1,
-        ReportAnswer::NoTable => 3,
-        ReportAnswer::BadRule(i) => 4 + 256 * (i as u64),
-        ReportAnswer::NoPlace => 6,
-        ReportAnswer::Full => 7,
+        Err(ReportError::BadRule(i)) => u64::from(Refusal::NoRule) + 256 * u64::from(i),
+        Err(ReportError::Lengths) => u64::from(Refusal::Lengths),
+        Err(ReportError::NoTable) => u64::from(Refusal::NoTable),
+        Err(ReportError::Place) => u64::from(Refusal::Place),
+        Err(ReportError::Full) => u64::from(Refusal::Full),
     }
 }
 
 // Check's answer in one number.
-fn pack_check(r: CheckAnswer) -> u64
+fn pack_check(r: Result<Progress, CheckError>) -> u64
     requires { NarrowCheck (check_place r) (check_done r) (check_left r) }
     ensures { result ≡ pack_check (check_number r) (check_place r) (check_done r) (check_left r) }
 {
     match r {
-        CheckAnswer::Done(done, left) => { 131072 * (done as u64) + 8589934592 * (left as u64) }
-        CheckAnswer::Full(done, left) => { 7 + 131072 * (done as u64) + 8589934592 * (left as u64) }
-        CheckAnswer::BadRule(i) => 4 + 256 * (i as u64),
-        CheckAnswer::Lengths => 1,
-        CheckAnswer::NoTable => 3,
+        Ok(p) => 131072 * (p.done as u64) + 8589934592 * (p.left as u64),
+        Err(CheckError::Full(p)) => {
+            u64::from(Refusal::Full) + 131072 * (p.done as u64) + 8589934592 * (p.left as u64)
+        }
+        Err(CheckError::BadRule(i)) => u64::from(Refusal::NoRule) + 256 * u64::from(i),
+        Err(CheckError::Lengths) => u64::from(Refusal::Lengths),
+        Err(CheckError::NoTable) => u64::from(Refusal::NoTable),
     }
 }
 
-// A point's answer in one number.
-fn pack_point(r: Point) -> u64
-    ensures { result ≡ pack_point (point_number r) (point_tile r) }
+// The answer of a question or of a macro in one number: the value that it gives lies above its number.
+fn pack_value(r: Result<usize, Refusal>) -> u64
+    requires { value r ≤ 65535 }
+    ensures { result ≡ pack_macro (number r) (value r) }
 {
     match r {
-        Point::At(i) => 131072 * (i as u64),
-        Point::No(why) => refusal_number(why),
-    }
-}
-
-// A macro's answer in one number.
-fn pack_macro(r: MacroAnswer) -> u64
-    requires { macro_used r ≤ 512 }
-    ensures { result ≡ pack_macro (macro_number r) (macro_used r) }
-{
-    match r {
-        MacroAnswer::Used(used) => 131072 * (used as u64),
-        MacroAnswer::No(why) => refusal_number(why),
+        Ok(given) => 131072 * (given as u64),
+        Err(why) => u64::from(why),
     }
 }
 
@@ -121,15 +111,11 @@ pub extern "C" fn layout_check(
 ) -> u64
     ensures { CheckPacked (lent material.now errors.old waiting.old) work.old rules.now used times result (lent material.now errors.new waiting.new) work.new }
 {
-    pack_check(check(
-        material,
-        errors,
-        waiting,
-        work,
-        rules,
-        wide(used),
-        wide(times),
-    ))
+    let rules = RuleList {
+        words: rules,
+        used: usize::from(used),
+    };
+    pack_check(check(material, errors, waiting, work, rules, usize::from(times)))
 }
 
 #[unsafe(no_mangle)]
@@ -147,15 +133,23 @@ pub extern "C" fn layout_report(
 ) -> u64
     ensures { ReportPacked (lent material.now errors.now waiting.now) rules.now used (area x1 y1 x2 y2) tiles.old result tiles.new }
 {
-    let a = Area { x1, y1, x2, y2 };
-    pack_report(report(material, errors, waiting, rules, wide(used), a, tiles))
+    let layout = Layout {
+        material,
+        errors,
+        waiting,
+    };
+    let rules = RuleList {
+        words: rules,
+        used: usize::from(used),
+    };
+    pack_report(report(layout, rules, Area { x1, y1, x2, y2 }, tiles))
 }
 
 #[unsafe(no_mangle)]
 pub extern "C" fn layout_point(table: &[u16], x: u16, y: u16) -> u64
     ensures { PointPacked table.now x y result }
 {
-    pack_point(point(table, x, y))
+    pack_value(point(table, x, y).map(usize::from))
 }
 
 #[unsafe(no_mangle)]
@@ -169,7 +163,7 @@ pub extern "C" fn layout_width(
 ) -> u64
     ensures { MacroPacked (λ n k. Widened rules.old used t set d reason n k rules.new) result }
 {
-    pack_macro(width(rules, wide(used), t, set, d, reason))
+    pack_value(width(rules, usize::from(used), t, set, d, reason))
 }
 
 #[unsafe(no_mangle)]
@@ -185,5 +179,5 @@ pub extern "C" fn layout_spacing(
 ) -> u64
     ensures { MacroPacked (λ n k. Spaced rules.old used t a b d touch reason n k rules.new) result }
 {
-    pack_macro(spacing(rules, wide(used), t, a, b, d, touch, reason))
+    pack_value(spacing(rules, usize::from(used), t, a, b, d, touch, reason))
 }

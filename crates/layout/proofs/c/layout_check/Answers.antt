@@ -4,4 +4,4 @@ use native.Mathlib.Omega.{arith}
 use Rattle.layout.proofs.c.layout_check.Goals as goal
 
 pub pack_check-requires : goal.pack_check-requires
-pack_check-requires c = (check_narrow (omega (arith, c.wide-2.ensures)) c.check.ensures).0
+pack_check-requires c = (check_narrow (omega (arith, c.from-2.ensures)) c.check.ensures).0
