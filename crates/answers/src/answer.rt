@@ -1,86 +1,83 @@
-// The answer to a command: before an accepted `new`, and after it.
-ghost use Rattle.std.specs.Prelude.{true, List, ◌≡◌, ℕ};
-ghost use Rattle.sheet.specs.Layout.{lent};
-ghost use Rattle.desk.specs.Kept.{model_of, Kept, Comes};
-ghost use Rattle.desk.specs.Model.{early, later, answered};
+// The answer to a line's command: before an accepted `new`, and after it.
+ghost use Rattle.std.specs.Prelude.{true, ◌≡◌, ℕ};
+ghost use Rattle.desk.specs.Answers.{told};
+ghost use Rattle.desk.specs.Model.{obeyed, answered};
 
 use crate::look::{check_pieces, report_area};
 use commands::command::Command;
-use desk::draw::{new_window, paint_area};
-use desk::ruling::add_rules;
-use desk::state::{Answered, Desk, refused};
+use desk::state::{Desk, Refused, Stage};
 use plane::tile::Area;
+use replies::reply::Reply;
+use rules::rule::Rule;
 
-// Any line that is not a `new` command is out of turn.
-fn before_new(
-    material: &mut [u16],
-    errors: &mut [u16],
-    waiting: &mut [u16],
-    d: Desk,
-    line: u64,
-    c: Command,
-) -> Answered
-    ensures { (work ws : List ℕ) → Kept d (lent material.old errors.old waiting.old) work ws → Comes (early (model_of d (lent material.old errors.old waiting.old) ws) line c) result (lent material.new errors.new waiting.new) work ws }
+// A command after an accepted `new`, each by its own function.
+fn obey(desk: &mut Desk, command: Command) -> Result<Reply, Refused>
+    requires { desk.old.ready ≡ true }
+    ensures { (line : ℕ) → (desk.new, told result line) ≡ obeyed desk.old line command }
 {
-    let Command::New { w, h, t } = c else {
-        return refused(d, 8, line);
-    };
-    new_window(material, errors, waiting, d, line, w, h, t)
-}
-
-// Each command as its own function answers it.
-fn after_new(
-    material: &mut [u16],
-    errors: &mut [u16],
-    waiting: &mut [u16],
-    work: &mut [u16],
-    rules: &mut [u16],
-    d: Desk,
-    line: u64,
-    c: Command,
-) -> Answered
-    requires { (Kept d (lent material.old errors.old waiting.old) work.old rules.old) × (d.ready ≡ true) }
-    ensures { Comes (later (model_of d (lent material.old errors.old waiting.old) rules.old) line c) result (lent material.new errors.new waiting.new) work.new rules.new }
-{
-    match c {
-        Command::New { w, h, t } => new_window(material, errors, waiting, d, line, w, h, t),
+    match command {
+        Command::New { w, h, t } => desk.new_window(w, h, t),
+        Command::Rule {
+            type1,
+            type2,
+            d,
+            allowed,
+            corners,
+            ce,
+            fourway,
+            reason,
+        } => desk.add_rule(Rule {
+            type1,
+            type2,
+            d,
+            allowed,
+            corners,
+            ce,
+            fourway,
+            reason,
+        }),
+        Command::Width { set, d, reason } => desk.add_width(set, d, reason),
+        Command::Spacing {
+            a,
+            b,
+            d,
+            touch,
+            reason,
+        } => desk.add_spacing(a, b, d, touch, reason),
         Command::Paint {
             x1,
             y1,
             x2,
             y2,
             kind,
-        } => {
-            let area = Area { x1, y1, x2, y2 };
-            paint_area(material, errors, waiting, work, d, line, area, kind)
-        }
-        Command::Check { n } => check_pieces(material, errors, waiting, work, rules, d, n),
-        Command::Report { x1, y1, x2, y2 } => {
-            let area = Area { x1, y1, x2, y2 };
-            let reply = report_area(material, errors, waiting, rules, d, line, area);
-            Answered { desk: d, reply }
-        }
-        _ => add_rules(material, rules, d, line, c),
+        } => desk.paint(Area { x1, y1, x2, y2 }, kind),
+        Command::Check { n } => Ok(check_pieces(desk, n)),
+        Command::Report { x1, y1, x2, y2 } => report_area(desk, Area { x1, y1, x2, y2 }),
     }
 }
 
-// The desk after a command, and the reply to it. Not a public call: its caller keeps the desk.
-pub fn answer(
-    material: &mut [u16],
-    errors: &mut [u16],
-    waiting: &mut [u16],
-    work: &mut [u16],
-    rules: &mut [u16],
-    d: Desk,
-    line: u64,
-    c: Command,
-) -> Answered
-    requires { Kept d (lent material.old errors.old waiting.old) work.old rules.old }
-    ensures { Comes (answered (model_of d (lent material.old errors.old waiting.old) rules.old) line c) result (lent material.new errors.new waiting.new) work.new rules.new }
+// What a line comes to: before an accepted `new` any line but a `new` is out of turn, and a line that is no command has none.
+#[tactic(auto, unfolding(desk::specs::Model::answered))]
+fn outcome(desk: &mut Desk, command: Option<Command>) -> Result<Reply, Refused>
+    ensures { (line : ℕ) → (desk.new, told result line) ≡ answered desk.old line command }
 {
-    if d.ready {
-        after_new(material, errors, waiting, work, rules, d, line, c)
-    } else {
-        before_new(material, errors, waiting, d, line, c)
+    match (desk.stage, command) {
+        (Stage::Unmade, Some(Command::New { w, h, t })) => desk.new_window(w, h, t),
+        (Stage::Unmade, _) => Err(Refused::OutOfTurn),
+        (_, Some(command)) => obey(desk, command),
+        (_, None) => Err(Refused::Unknown),
+    }
+}
+
+// The reply to a line, and the desk afterwards. Not a public call.
+pub fn answer(desk: &mut Desk, line: u64, command: Option<Command>) -> Reply
+    ensures { (desk.new, result) ≡ answered desk.old line command }
+{
+    match outcome(desk, command) {
+        Ok(reply) => reply,
+        Err(why) => Reply::No {
+            number: u8::from(why),
+            line,
+        },
     }
 }
