@@ -1,5 +1,5 @@
 // The calls as C sees them: numbers and slices of words, and one number returned. Bits 0 to 7 are the answer's number, and the others are laid out as specs/Pack says.
-ghost use Rattle.std.specs.Prelude.{◌≡◌, ◌≤◌, ◌<◌};
+ghost use Rattle.std.specs.Prelude.{◌≡◌, ◌≤◌};
 ghost use Rattle.plane.specs.Answers.{number, value};
 ghost use Rattle.plane.specs.Picture.{area};
 ghost use Rattle.macros.specs.Expansion.{Widened, Spaced};
@@ -7,7 +7,7 @@ ghost use Rattle.sheet.specs.Answers.{report_number, report_place, report_settle
 ghost use Rattle.checker.specs.Answers.{check_number, check_place, check_done, check_left};
 ghost use Rattle.drawing.specs.Create.{Created};
 ghost use Rattle.sheet.specs.Layout.{lent};
-ghost use Rattle.layout.specs.Pack.{pack_check, NarrowCheck, CheckPacked, pack_report, pack_point, pack_macro, Narrow, ReportPacked, PointPacked, MacroPacked};
+ghost use Rattle.layout.specs.Pack.{pack_check, NarrowCheck, CheckPacked, pack_report, pack_macro, Narrow, ReportPacked, PointPacked, MacroPacked};
 ghost use Rattle.drawing.specs.Paint.{Painted};
 
 use ask::handle::point;
