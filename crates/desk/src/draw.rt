@@ -29,8 +29,7 @@ impl Desk {
 
     // paint: the area of the material, and the area waiting.
     pub fn paint(&mut self, a: Area, kind: u16) -> Result<Reply, Refused>
-        requires { self.old.ready ≡ true }
-        ensures { (line : ℕ) → (self.new, told result line) ≡ painted_by self.old line a kind }
+        ensures { self.old.ready ≡ true → (line : ℕ) → (self.new, told result line) ≡ painted_by self.old line a kind }
     {
         paint(
             &mut self.material,
@@ -40,7 +39,9 @@ impl Desk {
             a,
             kind,
         )?;
-        self.stage = Stage::Painted;
+        if self.stage == Stage::Unpainted {
+            self.stage = Stage::Painted;
+        }
         Ok(Reply::Ok)
     }
 }

@@ -1,5 +1,5 @@
 // The commands that add rules: rule, width and spacing. T is the material's.
-ghost use Rattle.std.specs.Prelude.{true, [], ◌∷◌, ◌≡◌, ℕ};
+ghost use Rattle.std.specs.Prelude.{true, [], ◌∷◌, ◌≡◌, ◌≤◌, ℕ};
 ghost use Rattle.macros.specs.Macros.{width, width_sound, spacing, spacing_sound};
 ghost use Rattle.rules.specs.Words.{sound};
 ghost use Rattle.desk.specs.Answers.{told, may_rule};
@@ -27,8 +27,8 @@ impl Desk {
     // rule: one rule put behind the used ones.
     #[tactic(auto, using(crate::proofs::Rulings::full_comes))]
     pub fn add_rule(&mut self, r: Rule) -> Result<Reply, Refused>
-        requires { self.old.ready ≡ true }
-        ensures { (line : ℕ) → (self.new, told result line) ≡ added self.old line (sound (kinds_of self.old) r) (r ∷ []) }
+        requires { kinds_of self.old ≤ 16 }
+        ensures { self.old.ready ≡ true → (line : ℕ) → (self.new, told result line) ≡ added self.old line (sound (kinds_of self.old) r) (r ∷ []) }
     {
         if !r.is_sound(self.material[3]) {
             return Err(Refused::By(Refusal::NoRule));
@@ -45,8 +45,7 @@ impl Desk {
     // width S d reason: the macro's rules behind the used ones. Its refusals go before that after a paint, when the used rules stay as they
     // are, whatever was written behind them.
     pub fn add_width(&mut self, set: u16, d: u16, reason: u16) -> Result<Reply, Refused>
-        requires { self.old.ready ≡ true }
-        ensures { (line : ℕ) → (self.new, told result line) ≡ added self.old line (width_sound (kinds_of self.old) set d) (width (kinds_of self.old) set d reason) }
+        ensures { self.old.ready ≡ true → (line : ℕ) → (self.new, told result line) ≡ added self.old line (width_sound (kinds_of self.old) set d) (width (kinds_of self.old) set d reason) }
     {
         let used = width(&mut self.rules, self.used, self.material[3], set, d, reason)?;
         self.stage.may_rule()?;
@@ -63,8 +62,7 @@ impl Desk {
         touch: u16,
         reason: u16,
     ) -> Result<Reply, Refused>
-        requires { self.old.ready ≡ true }
-        ensures { (line : ℕ) → (self.new, told result line) ≡ added self.old line (spacing_sound (kinds_of self.old) a b d touch) (spacing (kinds_of self.old) a b d touch reason) }
+        ensures { self.old.ready ≡ true → (line : ℕ) → (self.new, told result line) ≡ added self.old line (spacing_sound (kinds_of self.old) a b d touch) (spacing (kinds_of self.old) a b d touch reason) }
     {
         let t = self.material[3];
         let used = spacing(&mut self.rules, self.used, t, a, b, d, touch, reason)?;
