@@ -43,27 +43,30 @@ use Rattle.desk.proofs.Draws.{with_tables}
 use Rattle.desk.proofs.RuleLists.{halo_is}
 
 -- ---- check
-pub check_comes : (d : Inside) {l : Layout} {work : List ℕ} (n : ℕ) (r : Result Progress CheckError) → Kept d → is_made d.stage ≡ true → Tables l → l.material ≡ d.material → length work ≡ length d.work
-    → Checked (layout_of d) d.work d.rules d.used n (check_number r) (check_place r) (check_done r) (check_left r) l work
-    → Kept (with_tables d l work) × ((model_of (with_tables d l work), reply.Check (check_number r) (check_done r) (check_left r)) ≡ checked_by (model_of d) n)
-unfolding checked_by
-check_comes d {l} {work} n r K ready T same W C =
-    let F = K.fit ready in
-    let L : CheckLength (layout_of d) d.work d.rules d.used = record { tables = record { tables = F.lengths.tables; working = K.working ∙ sym K.tables.material }; list = F.lengths.list } in
-    let four = 4 unless AllSound d.rules d.used (kinds d.material) ∷ [] in
-    let z : C.tested ≡ 0 =
-    passed (4 unless AllSound d.rules d.used (kinds d.material)) [] F.sound
-    (passed (3 unless IsLayout (layout_of d)) four F.tables (passed (1 unless CheckLength (layout_of d) d.work d.rules d.used) (3 unless IsLayout (layout_of d) ∷ four) L C.number)) in
-    let e = C.leaves ∙ ap (λ (t : ℕ). if_done t (ran_check (check_run n (rules_of d.rules d.used) (halo_of d.rules d.used) (layout_of d))) (refused_check t (layout_of d))) z in (
-      record {
-        tables = T;
-        working = W ∙ K.working;
-        list = K.list;
-        used = K.used;
-        fit = λ _. subst (λ (x : Layout). Fit x d.rules d.used) (sym (ap (λ (x : CheckLeft). x.layout) e)) (run_fit n (layout_of d) F);
-      },
-      ap (λ (x : CheckLeft). left_by (model_of d) x) (e ∙ ap (λ (h : ℕ). ran_check (check_run n (rules_of d.rules d.used) h (layout_of d))) (halo_is d.rules d.used)),
-    )
+-- on a desk with a layout, what check leaves is what its run leaves
+module _ (d : Inside) (K : Kept d) (ready : is_made d.stage ≡ true) (n : ℕ) (r : Result Progress CheckError) {l : Layout} {work : List ℕ}
+    (C : Checked (layout_of d) d.work d.rules d.used n (check_number r) (check_place r) (check_done r) (check_left r) l work) where
+  ran : record { number = check_number r; done = check_done r; left = check_left r; layout = l } ≡ ran_check (check_run n (rules_of d.rules d.used) (halo_of d.rules d.used) (layout_of d))
+  ran =
+      let F = K.fit ready in
+      let L : CheckLength (layout_of d) d.work d.rules d.used = record { tables = record { tables = F.lengths.tables; working = K.working ∙ sym K.tables.material }; list = F.lengths.list } in
+      let four = 4 unless AllSound d.rules d.used (kinds d.material) ∷ [] in
+      let z : C.tested ≡ 0 =
+      passed (4 unless AllSound d.rules d.used (kinds d.material)) [] F.sound
+      (passed (3 unless IsLayout (layout_of d)) four F.tables (passed (1 unless CheckLength (layout_of d) d.work d.rules d.used) (3 unless IsLayout (layout_of d) ∷ four) L C.number)) in
+      C.leaves ∙ ap (λ (t : ℕ). if_done t (ran_check (check_run n (rules_of d.rules d.used) (halo_of d.rules d.used) (layout_of d))) (refused_check t (layout_of d))) z
+
+  pub check_comes : (model_of (with_tables d l work), reply.Check (check_number r) (check_done r) (check_left r)) ≡ checked_by (model_of d) n
+  unfolding checked_by
+  check_comes = ap (λ (x : CheckLeft). left_by (model_of d) x) (ran ∙ ap (λ (h : ℕ). ran_check (check_run n (rules_of d.rules d.used) h (layout_of d))) (halo_is d.rules d.used))
+
+  fits_on : Fit l d.rules d.used
+  fits_on = subst (λ (x : Layout). Fit x d.rules d.used) (sym (ap (λ (x : CheckLeft). x.layout) ran)) (run_fit n (layout_of d) (K.fit ready))
+
+-- the desk is kept, whatever the answer
+pub check_kept : (d : Inside) {l : Layout} {work : List ℕ} (n : ℕ) (r : Result Progress CheckError) → Kept d → Tables l → length work ≡ length d.work
+    → Checked (layout_of d) d.work d.rules d.used n (check_number r) (check_place r) (check_done r) (check_left r) l work → Kept (with_tables d l work)
+check_kept d n r K T W C = record { tables = T; working = W ∙ K.working; list = K.list; used = K.used; fit = λ q. fits_on d K q n r C }
 
 -- ---- report
 -- a refusal that report's error became has its number, and what was found is found

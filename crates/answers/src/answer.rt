@@ -1,7 +1,7 @@
 // The answer to a line's command: before an accepted `new`, and after it.
-ghost use Rattle.std.specs.Prelude.{true, ◌≡◌, ℕ};
+ghost use Rattle.std.specs.Prelude.{true, ◌≡◌, ◌≤◌, ℕ};
 ghost use Rattle.desk.specs.Answers.{told};
-ghost use Rattle.desk.specs.Model.{obeyed, answered};
+ghost use Rattle.desk.specs.Model.{kinds_of, obeyed, answered};
 
 use crate::look::{check_pieces, report_area};
 use commands::command::Command;
@@ -12,7 +12,7 @@ use rules::rule::Rule;
 
 // A command after an accepted `new`, each by its own function.
 fn obey(desk: &mut Desk, command: Command) -> Result<Reply, Refused>
-    requires { desk.old.ready ≡ true }
+    requires { (desk.old.ready ≡ true) × (kinds_of desk.old ≤ 16) }
     ensures { (line : ℕ) → (desk.new, told result line) ≡ obeyed desk.old line command }
 {
     match command {

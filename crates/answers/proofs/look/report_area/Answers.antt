@@ -9,8 +9,8 @@ use Rattle.answers.proofs.Looks.{mapped_err, mapped_ok, report_none, report_foun
 use Rattle.answers.proofs.look.report_area.Goals as goal
 
 pub returns-in_err-found : goal.returns-in_err-found
-returns-in_err-found c = λ line.
-    let ready = rw (← c.desk.view_is) at c.requires in
+returns-in_err-found c = λ r line.
+    let ready = rw (← c.desk.view_is) at r in
     let e = err_from_is_err_and c.from_residual.result c.from_residual.ensures.1 in
     rw (← c.desk.view_is, e.1, e.2)
     (report_none c.desk.inside c.args.a line c.desk.invariant ready refl (mapped_err c.report.result c.map_err.result c.map_err.ensures.cases c.in_err-found.was) (refusal_positive _) c.report.ensures)
@@ -21,7 +21,7 @@ number_of true = refl
 number_of false = refl
 
 pub returns : goal.returns
-returns c = λ line.
-    let ready = rw (← c.desk.view_is) at c.requires in
+returns c = λ r line.
+    let ready = rw (← c.desk.view_is) at r in
     rw (← c.desk.view_is, c.from.ensures, number_of c.in_ok-found.found.settled)
     (report_found c.desk.inside c.args.a line c.desk.invariant ready refl c.report.result (mapped_ok c.report.result c.map_err.result c.map_err.ensures.cases c.in_ok-found.was) c.report.ensures)
