@@ -3,4 +3,4 @@
 
 pub mod handle;
 pub mod query;
-pub mod side;
+mod side;

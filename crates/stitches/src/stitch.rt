@@ -13,7 +13,7 @@ use slots::slots::Slots;
 pub const NO_TILE: u16 = 65535;
 
 // Where the four stitches of a tile lead, in a window w by h.
-pub fn ends_of(t: Tile, w: u16, h: u16) -> Links<Option<(u16, u16)>>
+pub(crate) fn ends_of(t: Tile, w: u16, h: u16) -> Links<Option<(u16, u16)>>
     requires { (0 < t.right) × (0 < t.top) }
     ensures { Ends w h t result }
 {
@@ -26,7 +26,7 @@ pub fn ends_of(t: Tile, w: u16, h: u16) -> Links<Option<(u16, u16)>>
 }
 
 // The word of a stitch to a square: the number of the tile that holds it, tile k if it does, or one looked for from tile i down and then up.
-pub fn stitch_to(tiles: Slots<'_>, square: Option<(u16, u16)>, k: u16, i: usize) -> u16
+pub(crate) fn stitch_to(tiles: Slots<'_>, square: Option<(u16, u16)>, k: u16, i: usize) -> u16
     requires { (i ≤ tiles.count) × (tiles.count ≤ 65535) }
     ensures { StitchTo tiles.entry.words.now tiles.entry.count square result }
 {
@@ -41,7 +41,7 @@ pub fn stitch_to(tiles: Slots<'_>, square: Option<(u16, u16)>, k: u16, i: usize)
 
 // The stitches of tile i. Its words have guesses at them. That the tiles are tight is asked here and below, and is no type's invariant: the words
 // change with each tile that is stitched, so a type over them would have to be made anew at each.
-pub fn links_of(tiles: Slots<'_>, w: u16, h: u16, i: usize) -> Links<u16>
+pub(crate) fn links_of(tiles: Slots<'_>, w: u16, h: u16, i: usize) -> Links<u16>
     requires n_in_bounds { (i < tiles.count) × (tiles.count ≤ 65535) }
     requires tight { Tight tiles.words.now tiles.count w h }
     ensures { LinksOf tiles.entry.words.now tiles.entry.count (tile_of tiles.entry.words.now i) result }
@@ -56,7 +56,7 @@ pub fn links_of(tiles: Slots<'_>, w: u16, h: u16, i: usize) -> Links<u16>
 }
 
 // Sets the stitches of tile i.
-pub fn put_links(work: &mut [u16], i: usize, l: Links<u16>)
+pub(crate) fn put_links(work: &mut [u16], i: usize, l: Links<u16>)
     requires { 4 + 9 * i + 9 ≤ length work.old }
     ensures { PutLinks work.old work.new i l }
 {
@@ -68,7 +68,7 @@ pub fn put_links(work: &mut [u16], i: usize, l: Links<u16>)
 }
 
 // The stitches of the first n tiles, from guesses at them.
-pub fn stitch_from(work: &mut [u16], n: usize, w: u16, h: u16)
+pub(crate) fn stitch_from(work: &mut [u16], n: usize, w: u16, h: u16)
     requires n_in_bounds { (4 + 9 * n ≤ length work.old) × (n ≤ 65535) }
     requires tight { Tight work.old n w h }
     ensures { StitchedTo work.old n work.new n }
