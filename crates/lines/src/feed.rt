@@ -44,9 +44,9 @@ impl State {
     }
 
     // Puts the reply to a last line that lacks its line end, as if it had one, at the start of `out`; how many bytes it is.
-    pub fn finish(&mut self, out: &mut [u8]) -> usize
-        requires { (self.old.lines + 1 < 2 ^ 64) × (80 ≤ length out.old) }
-        ensures { (result ≤ 80) × ((m : Model) → Holds self.old m → take result out.new ≡ last_words m) }
+    pub fn finish(mut self, out: &mut [u8]) -> usize
+        requires { (self.lines + 1 < 2 ^ 64) × (80 ≤ length out.old) }
+        ensures { (result ≤ 80) × ((m : Model) → Holds self m → take result out.new ≡ last_words m) }
     {
         if !self.begun() {
             return 0;
