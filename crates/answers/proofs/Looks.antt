@@ -35,7 +35,7 @@ use Rattle.checker.proofs.CheckStays.{run_fit}
 use Rattle.replies.specs.declared.reply.Reply.{Reply}
 use Rattle.replies.specs.declared.reply.Reply.TheVariants as reply
 use Rattle.desk.specs.declared.state.Desk.TheInside.{Inside}
-use Rattle.desk.specs.Kept.{is_made, layout_of, model_of, Tables, Kept}
+use Rattle.desk.specs.Kept.{layout_of, model_of, Tables, Kept}
 use Rattle.desk.specs.Model.{checked_by, left_by, reported_on, found_reply, halo}
 use Rattle.desk.specs.Tests.{area_in}
 use Rattle.desk.proofs.Decides.{decided, passed, area_is, leb_is}
@@ -44,7 +44,7 @@ use Rattle.desk.proofs.RuleLists.{halo_is}
 
 -- ---- check
 -- on a desk with a layout, what check leaves is what its run leaves
-module _ (d : Inside) (K : Kept d) (ready : is_made d.stage ≡ true) (n : ℕ) (r : Result Progress CheckError) {l : Layout} {work : List ℕ}
+module _ (d : Inside) (K : Kept d) (ready : d.ready ≡ true) (n : ℕ) (r : Result Progress CheckError) {l : Layout} {work : List ℕ}
     (C : Checked (layout_of d) d.work d.rules d.used n (check_number r) (check_place r) (check_done r) (check_left r) l work) where
   ran : record { number = check_number r; done = check_done r; left = check_left r; layout = l } ≡ ran_check (check_run n (rules_of d.rules d.used) (halo_of d.rules d.used) (layout_of d))
   ran =
@@ -92,7 +92,7 @@ abbrev inside : Inside → Area → Bool
 inside d a = area_in (width d.material) (height d.material) a
 
 -- a listing with the room of the table is never full, so only the area decides
-module _ (d : Inside) (a : Area) (line : ℕ) (K : Kept d) (ready : is_made d.stage ≡ true) {out : List ℕ} (long : length out ≡ 400) where
+module _ (d : Inside) (a : Area) (line : ℕ) (K : Kept d) (ready : d.ready ≡ true) {out : List ℕ} (long : length out ≡ 400) where
   report_number_lem : {n place : ℕ} {f : Findings} → Reported (layout_of d) d.rules d.used a out n place f → n ≡ cond (inside d a) 0 6
   report_number_lem R =
       let F = K.fit ready in

@@ -5,7 +5,7 @@ ghost use Rattle.desk.specs.Model.{kinds_of, obeyed, answered};
 
 use crate::look::{check_pieces, report_area};
 use commands::command::Command;
-use desk::state::{Desk, Refused, Stage};
+use desk::state::{Desk, Refused};
 use plane::tile::Area;
 use replies::reply::Reply;
 use rules::rule::Rule;
@@ -61,11 +61,11 @@ fn obey(desk: &mut Desk, command: Command) -> Result<Reply, Refused>
 fn outcome(desk: &mut Desk, command: Option<Command>) -> Result<Reply, Refused>
     ensures { (line : ℕ) → (desk.new, told result line) ≡ answered desk.old line command }
 {
-    match (desk.stage, command) {
-        (Stage::Unmade, Some(Command::New { w, h, t })) => desk.new_window(w, h, t),
-        (Stage::Unmade, _) => Err(Refused::OutOfTurn),
-        (_, Some(command)) => obey(desk, command),
-        (_, None) => Err(Refused::Unknown),
+    match (desk.ready, command) {
+        (false, Some(Command::New { w, h, t })) => desk.new_window(w, h, t),
+        (false, _) => Err(Refused::OutOfTurn),
+        (true, Some(command)) => obey(desk, command),
+        (true, None) => Err(Refused::Unknown),
     }
 }
 

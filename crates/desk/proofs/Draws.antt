@@ -21,12 +21,8 @@ use Rattle.sheet.specs.Layout.{Layout, room, OneLength, WorkLength, IsLayout}
 use Rattle.drawing.specs.Paint.{BothFit, Painted, painted_layout}
 use Rattle.drawing.proofs.Stays.{create_makes, paint_keeps}
 use Rattle.replies.specs.declared.reply.Reply.TheVariants as reply
-use denote.Enum.Bare.{sameb}
-use Rattle.desk.specs.contracts.state.Stage.{the_type}
-use Rattle.desk.specs.declared.state.Stage.{Stage}
-use Rattle.desk.specs.declared.state.Stage.TheVariants as stage
 use Rattle.desk.specs.declared.state.Desk.TheInside.{Inside}
-use Rattle.desk.specs.Kept.{is_made, is_painted, layout_of, model_of, Tables, Kept}
+use Rattle.desk.specs.Kept.{layout_of, model_of, Tables, Kept}
 use Rattle.desk.specs.Model.{Model, said, opened, painted_by, in_window}
 use Rattle.desk.specs.Tests.{first_no, in_range, both_fit}
 use Rattle.desk.proofs.Decides.{decided, passed, range_is, area_is, fit_is, ltb_is}
@@ -60,7 +56,7 @@ tables_stay d {l} {work} K e w =
 -- ---- new
 -- the desk with a new layout
 abbrev pub opened_desk : Inside → Layout → Inside
-opened_desk d l = record d { material = l.material; errors = l.errors; waiting = l.waiting; used = 0; stage = stage.Unpainted }
+opened_desk d l = record d { material = l.material; errors = l.errors; waiting = l.waiting; used = 0; ready = true; painted = false }
 
 module _ (d : Inside) (K : Kept d) (line w h t : ℕ) {l : Layout} where
   new_number : {n : ℕ} → Created (layout_of d) w h t n l → n ≡ first_no ((2, in_range w h t) ∷ [])
@@ -89,37 +85,26 @@ module _ (d : Inside) (K : Kept d) (line w h t : ℕ) {l : Layout} where
       )
 
 -- ---- paint
--- what the test of a stage tells
-pub unpainted_made : (s : Stage) → sameb the_type s stage.Unpainted ≡ true → is_made s ≡ true
-unpainted_made stage.Unmade e = e
-unpainted_made stage.Unpainted e = refl
-unpainted_made stage.Painted e = refl
-
-pub else_painted : (s : Stage) → is_made s ≡ true → sameb the_type s stage.Unpainted ≡ false → is_painted s ≡ true
-else_painted stage.Unmade m e = m
-else_painted stage.Unpainted m e = sym e
-else_painted stage.Painted m e = refl
-
 -- the tests of a desk, its model with a paint, and the desk with its layout painted
 abbrev paint_tests : Inside → Area → ℕ → List (ℕ × Bool)
 paint_tests d a k = (5, ltb k (kinds d.material)) ∷ (6, in_window (model_of d) a) ∷ (7, both_fit (layout_of d) a k) ∷ []
 
 abbrev after_paint : Inside → Area → ℕ → Model
-after_paint d a k = record { ready = is_made d.stage; painted = true; layout = painted_layout (layout_of d) a k; rules = rules_of d.rules d.used }
+after_paint d a k = record { ready = d.ready; painted = true; layout = painted_layout (layout_of d) a k; rules = rules_of d.rules d.used }
 
-abbrev pub painted_desk : Inside → Layout → List ℕ → Stage → Inside
-painted_desk d l work s = record d { material = l.material; errors = l.errors; waiting = l.waiting; work = work; stage = s }
+abbrev pub painted_desk : Inside → Layout → List ℕ → Inside
+painted_desk d l work = record d { material = l.material; errors = l.errors; waiting = l.waiting; work = work; painted = true }
 
 module _ (d : Inside) (K : Kept d) (k : ℕ) (a : Area) {l : Layout} {work : List ℕ} (W : length work ≡ length d.work) where
-  -- the desk is kept at any stage that is made only if it was
-  pub paint_kept : (s : Stage) → (is_made s ≡ true → is_made d.stage ≡ true) → Painted (layout_of d) d.work a k 0 l work → Tables l → Kept (painted_desk d l work s)
-  paint_kept s made P T = record {
+  -- the desk is kept
+  pub paint_kept : Painted (layout_of d) d.work a k 0 l work → Tables l → Kept (painted_desk d l work)
+  paint_kept P T = record {
     tables = T;
     working = W ∙ K.working;
     list = K.list;
     used = K.used;
     fit = λ q.
-        let F = K.fit (made q) in
+        let F = K.fit q in
         let S = paint_keeps P (record { lengths = F.lengths.tables; tables = F.tables }) in
         let m = d.material in
         let k' : kinds l.material ≡ kinds m =
@@ -128,7 +113,7 @@ module _ (d : Inside) (K : Kept d) (k : ℕ) (a : Area) {l : Layout} {work : Lis
   }
 
   -- ---- on a desk with a layout
-  module _ (ready : is_made d.stage ≡ true) (line : ℕ) where
+  module _ (ready : d.ready ≡ true) (line : ℕ) where
     paint_number : {n : ℕ} → Painted (layout_of d) d.work a k n l work → n ≡ first_no (paint_tests d a k)
     paint_number P =
         let F = K.fit ready in
@@ -143,10 +128,8 @@ module _ (d : Inside) (K : Kept d) (k : ℕ) (a : Area) {l : Layout} {work : Lis
         let S = tables_stay d {work = work} K (P.outcome.leaves ∙ sym (left_as_is n (painted_layout (layout_of d) a k) (layout_of d) u)) W in
         ap (λ (m : Model). (m, reply.No n line)) S.1 ∙ said_no line (after_paint d a k) (model_of d) u (paint_number P)
 
-    pub paint_ok : (s : Stage) → is_made s ≡ true → is_painted s ≡ true → Painted (layout_of d) d.work a k 0 l work → (model_of (painted_desk d l work s), reply.Ok) ≡ painted_by (model_of d) line a k
+    pub paint_ok : Painted (layout_of d) d.work a k 0 l work → (model_of (painted_desk d l work), reply.Ok) ≡ painted_by (model_of d) line a k
     unfolding painted_by
-    paint_ok s m p P =
-        ap (λ (x : Layout). (record { ready = is_made s; painted = is_painted s; layout = x; rules = rules_of d.rules d.used }, reply.Ok)) P.outcome.leaves
-        ∙ (ap (λ (b : Bool). (record { ready = is_made s; painted = b; layout = painted_layout (layout_of d) a k; rules = rules_of d.rules d.used }, reply.Ok)) p
-        ∙ (ap (λ (b : Bool). (record { ready = b; painted = true; layout = painted_layout (layout_of d) a k; rules = rules_of d.rules d.used }, reply.Ok)) (m ∙ sym ready)
-        ∙ ap (λ (n : ℕ). said n line (after_paint d a k) (model_of d)) (paint_number P)))
+    paint_ok P =
+        ap (λ (x : Layout). (record { ready = d.ready; painted = true; layout = x; rules = rules_of d.rules d.used }, reply.Ok)) P.outcome.leaves
+        ∙ ap (λ (n : ℕ). said n line (after_paint d a k) (model_of d)) (paint_number P)

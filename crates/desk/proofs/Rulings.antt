@@ -18,13 +18,11 @@ use Rattle.rules.specs.Vetting.{ListLength, KindsIn}
 use Rattle.rules.specs.Words.{rules_of, rule_words, sound}
 use Rattle.replies.specs.declared.reply.Reply.TheVariants as reply
 use Rattle.std.specs.Prelude.{Ok, Err}
-use Rattle.desk.specs.declared.state.Stage.{Stage}
-use Rattle.desk.specs.declared.state.Stage.TheVariants as stage
 use Rattle.desk.specs.declared.state.Refused.{Refused}
 use Rattle.desk.specs.declared.state.Refused.TheVariants.{OutOfTurn}
 use Rattle.desk.specs.declared.state.Desk.TheInside.{Inside}
 use Rattle.desk.specs.Answers.{may_rule}
-use Rattle.desk.specs.Kept.{is_made, is_painted, layout_of, model_of, Kept}
+use Rattle.desk.specs.Kept.{layout_of, model_of, Kept}
 use Rattle.desk.specs.Model.{Model, kinds_of, said, added}
 use Rattle.desk.specs.Tests.{first_no}
 use Rattle.desk.proofs.Decides.{Decides, decided, passed, test_is, leb_is}
@@ -32,15 +30,13 @@ use Rattle.desk.proofs.Draws.{list_length, said_no}
 use Rattle.desk.proofs.RuleLists.{SoundFor, rules_length, appended_stay, appended_rules, put_appended, sound_with}
 
 -- ---- after a paint
-pub is_late : (s : Stage) {e : Refused} → may_rule s ≡ Err e → (is_painted s ≡ true) × (e ≡ OutOfTurn)
-is_late stage.Unmade e = cc
-is_late stage.Unpainted e = cc
-is_late stage.Painted e = (refl, cc)
+pub is_late : (painted : Bool) {e : Refused} → may_rule painted ≡ Err e → (painted ≡ true) × (e ≡ OutOfTurn)
+is_late true e = (refl, cc)
+is_late false e = cc
 
-pub is_early : (s : Stage) {x : Unit {0}} → may_rule s ≡ Ok x → is_painted s ≡ false
-is_early stage.Unmade e = refl
-is_early stage.Unpainted e = refl
-is_early stage.Painted e = cc
+pub is_early : (painted : Bool) {x : Unit {0}} → may_rule painted ≡ Ok x → painted ≡ false
+is_early true e = cc
+is_early false e = refl
 
 -- the tests of a command that adds rules: within their ranges, room for them, and no paint yet
 abbrev pub add_tests : Bool → Bool → Bool → List (ℕ × Bool)
@@ -51,7 +47,7 @@ abbrev pub fits : List ℕ → ℕ → List Rule → Bool
 fits ws used rs = leb (length (rules_of ws used) + length rs) 512
 
 -- a desk keeps a list of the used rules and sound ones behind them
-pub rules_kept : (d : Inside) {vs : List ℕ} (n : ℕ) (rs : List Rule) → Kept d → length vs ≡ length d.rules → n ≤ 512 → rules_of vs n ≡ rules_of d.rules d.used ++ rs → (is_made d.stage ≡ true → Every (SoundFor (kinds d.material)) rs) → Kept (record d { rules = vs; used = n })
+pub rules_kept : (d : Inside) {vs : List ℕ} (n : ℕ) (rs : List Rule) → Kept d → length vs ≡ length d.rules → n ≤ 512 → rules_of vs n ≡ rules_of d.rules d.used ++ rs → (d.ready ≡ true → Every (SoundFor (kinds d.material)) rs) → Kept (record d { rules = vs; used = n })
 rules_kept d {vs} n rs K long u r E = record {
   tables = K.tables;
   working = K.working;
@@ -71,23 +67,23 @@ rules_stay d K long r = rules_kept d d.used [] K long K.used (r ∙ sym (append-
 module _ (d : Inside) (vs : List ℕ) (ok : Bool) (rs : List Rule) (line : ℕ) where
   -- the tests of the desk, and its model with the rules
   abbrev now_tests : List (ℕ × Bool)
-  now_tests = add_tests ok (fits d.rules d.used rs) (not (is_painted d.stage))
+  now_tests = add_tests ok (fits d.rules d.used rs) (not (d.painted))
 
   abbrev after_rules : Model
-  after_rules = record { ready = is_made d.stage; painted = is_painted d.stage; layout = layout_of d; rules = rules_of d.rules d.used ++ rs }
+  after_rules = record { ready = d.ready; painted = d.painted; layout = layout_of d; rules = rules_of d.rules d.used ++ rs }
 
   -- a number, and the used rules stay
   pub added_no : (n : ℕ) → 0 < n → first_no now_tests ≡ n → rules_of vs d.used ≡ rules_of d.rules d.used → (model_of (record d { rules = vs }), reply.No n line) ≡ added (model_of d) line ok rs
   unfolding added
   added_no n u e r =
-      ap (λ (x : List Rule). (record { ready = is_made d.stage; painted = is_painted d.stage; layout = layout_of d; rules = x }, reply.No n line)) r
+      ap (λ (x : List Rule). (record { ready = d.ready; painted = d.painted; layout = layout_of d; rules = x }, reply.No n line)) r
       ∙ said_no line after_rules (model_of d) u (sym e)
 
   -- accepted, and the new rules follow
   pub added_ok : (n : ℕ) → first_no now_tests ≡ 0 → rules_of vs n ≡ rules_of d.rules d.used ++ rs → (model_of (record d { rules = vs; used = n }), reply.Ok) ≡ added (model_of d) line ok rs
   unfolding added
   added_ok n e r =
-      ap (λ (x : List Rule). (record { ready = is_made d.stage; painted = is_painted d.stage; layout = layout_of d; rules = x }, reply.Ok)) r
+      ap (λ (x : List Rule). (record { ready = d.ready; painted = d.painted; layout = layout_of d; rules = x }, reply.Ok)) r
       ∙ ap (λ (k : ℕ). said k line after_rules (model_of d)) (sym e)
 
 -- ---- the tests, one after the other
@@ -104,7 +100,7 @@ two_stop false b c e u = sym e
 -- ---- rule
 module _ (d : Inside) (r : Rule) (line : ℕ) (ok : Bool) where
   pub rule_bad : ok ≡ false → (model_of d, reply.No 4 line) ≡ added (model_of d) line ok (r ∷ [])
-  rule_bad e = added_no d d.rules ok (r ∷ []) line 4 (omega arith) (ap (λ (b : Bool). first_no (add_tests b (fits d.rules d.used (r ∷ [])) (not (is_painted d.stage)))) e) refl
+  rule_bad e = added_no d d.rules ok (r ∷ []) line 4 (omega arith) (ap (λ (b : Bool). first_no (add_tests b (fits d.rules d.used (r ∷ [])) (not (d.painted)))) e) refl
 
   few : length (rules_of d.rules d.used) ≡ d.used
   few = rules_length d.rules d.used
@@ -112,15 +108,15 @@ module _ (d : Inside) (r : Rule) (line : ℕ) (ok : Bool) where
   pub rule_full : ok ≡ true → 512 ≤ d.used → (model_of d, reply.No 7 line) ≡ added (model_of d) line ok (r ∷ [])
   rule_full e u =
       let f : fits d.rules d.used (r ∷ []) ≡ false = lt-leb (length (rules_of d.rules d.used) + 1) 512 (omega (arith, few)) in
-      added_no d d.rules ok (r ∷ []) line 7 (omega arith) (ap₂ (λ (a b : Bool). first_no (add_tests a b (not (is_painted d.stage)))) e f) refl
+      added_no d d.rules ok (r ∷ []) line 7 (omega arith) (ap₂ (λ (a b : Bool). first_no (add_tests a b (not (d.painted)))) e f) refl
 
   room : d.used < 512 → fits d.rules d.used (r ∷ []) ≡ true
   room u = le-leb (length (rules_of d.rules d.used) + 1) 512 (omega (arith, few))
 
-  pub rule_late : ok ≡ true → d.used < 512 → is_painted d.stage ≡ true → (model_of d, reply.No 8 line) ≡ added (model_of d) line ok (r ∷ [])
+  pub rule_late : ok ≡ true → d.used < 512 → d.painted ≡ true → (model_of d, reply.No 8 line) ≡ added (model_of d) line ok (r ∷ [])
   rule_late e u p =
       added_no d d.rules ok (r ∷ []) line 8 (omega arith)
-      (ap₂ (λ (a b : Bool). first_no (add_tests a b (not (is_painted d.stage)))) e (room u) ∙ ap (λ (c : Bool). first_no (add_tests true true (not c))) p) refl
+      (ap₂ (λ (a b : Bool). first_no (add_tests a b (not (d.painted)))) e (room u) ∙ ap (λ (c : Bool). first_no (add_tests true true (not c))) p) refl
 
 -- a full list, as the check looks for it
 pub full_comes : (d : Inside) (r : Rule) (line : ℕ) {m : Model} → model_of d ≡ m → sound (kinds d.material) r ≡ true → 512 ≤ d.used → (m, reply.No 7 line) ≡ added m line (sound (kinds_of m) r) (r ∷ [])
@@ -133,10 +129,10 @@ module _ (d : Inside) (r : Rule) (K : Kept d) {vs : List ℕ} (u : d.used < 512)
   pub rule_kept : SoundFor (kinds d.material) r → Kept (record d { rules = vs; used = d.used + 1 })
   rule_kept S = rules_kept d (d.used + 1) (r ∷ []) K (ap length g ∙ length-sets d.rules (8 * d.used) (rule_words r)) (omega arith) behind (λ _. (S, tt))
 
-  pub rule_added : (line : ℕ) (ok : Bool) → ok ≡ true → is_painted d.stage ≡ false → (model_of (record d { rules = vs; used = d.used + 1 }), reply.Ok) ≡ added (model_of d) line ok (r ∷ [])
+  pub rule_added : (line : ℕ) (ok : Bool) → ok ≡ true → d.painted ≡ false → (model_of (record d { rules = vs; used = d.used + 1 }), reply.Ok) ≡ added (model_of d) line ok (r ∷ [])
   rule_added line ok e p =
       added_ok d vs ok (r ∷ []) line (d.used + 1)
-      (ap₂ (λ (a b : Bool). first_no (add_tests a b (not (is_painted d.stage)))) e (room d r line ok u) ∙ ap (λ (c : Bool). first_no (add_tests true true (not c))) p)
+      (ap₂ (λ (a b : Bool). first_no (add_tests a b (not (d.painted)))) e (room d r line ok u) ∙ ap (λ (c : Bool). first_no (add_tests true true (not c))) p)
       behind
 
 -- ---- width and spacing
@@ -169,7 +165,7 @@ module _ (d : Inside) (K : Kept d) {vs : List ℕ} {ok : Bool} {rs : List Rule} 
     macro_kept long S = rules_kept d n rs K long (omega (arith, many, holds.1.1.1.0, K.list)) follow (λ _. S holds.1.1.0)
 
   -- ---- on a desk with a layout
-  module _ (ready : is_made d.stage ≡ true) (line : ℕ) where
+  module _ (ready : d.ready ≡ true) (line : ℕ) where
     -- the number is that of the first two tests
     macro_number_lem : {n count : ℕ} → Expanded d.rules d.used (kinds d.material) ok rs n count vs → n ≡ first_no ((4, ok) ∷ (7, fits d.rules d.used rs) ∷ [])
     macro_number_lem E =
@@ -185,15 +181,15 @@ module _ (d : Inside) (K : Kept d) {vs : List ℕ} {ok : Bool} {rs : List Rule} 
 
     pub macro_no : {n count : ℕ} → Expanded d.rules d.used (kinds d.material) ok rs n count vs → 0 < n → (model_of (record d { rules = vs }), reply.No n line) ≡ added (model_of d) line ok rs
     macro_no {n} E u =
-        added_no d vs ok rs line n u (two_stop ok (fits d.rules d.used rs) (not (is_painted d.stage)) (macro_number_lem E) u)
+        added_no d vs ok rs line n u (two_stop ok (fits d.rules d.used rs) (not (d.painted)) (macro_number_lem E) u)
         (ap (λ (x : List ℕ). rules_of x d.used) (refused_stay E u))
 
     module _ {n : ℕ} (E : Expanded d.rules d.used (kinds d.material) ok rs 0 n vs) where
-      two : (ok ≡ true) × ((fits d.rules d.used rs ≡ true) × (first_no (add_tests ok (fits d.rules d.used rs) (not (is_painted d.stage))) ≡ cond (not (is_painted d.stage)) 0 8))
-      two = two_pass ok (fits d.rules d.used rs) (not (is_painted d.stage)) (macro_number_lem E)
+      two : (ok ≡ true) × ((fits d.rules d.used rs ≡ true) × (first_no (add_tests ok (fits d.rules d.used rs) (not (d.painted))) ≡ cond (not (d.painted)) 0 8))
+      two = two_pass ok (fits d.rules d.used rs) (not (d.painted)) (macro_number_lem E)
 
-      pub macro_late : is_painted d.stage ≡ true → (model_of (record d { rules = vs }), reply.No 8 line) ≡ added (model_of d) line ok rs
+      pub macro_late : d.painted ≡ true → (model_of (record d { rules = vs }), reply.No 8 line) ≡ added (model_of d) line ok rs
       macro_late e = added_no d vs ok rs line 8 (omega arith) (two.1.1 ∙ ap (λ (b : Bool). cond (not b) 0 8) e) (stay E)
 
-      pub macro_added : is_painted d.stage ≡ false → (model_of (record d { rules = vs; used = n }), reply.Ok) ≡ added (model_of d) line ok rs
+      pub macro_added : d.painted ≡ false → (model_of (record d { rules = vs; used = n }), reply.Ok) ≡ added (model_of d) line ok rs
       macro_added e = added_ok d vs ok rs line n (two.1.1 ∙ ap (λ (b : Bool). cond (not b) 0 8) e) (follow E)

@@ -1,10 +1,8 @@
 -- What a command is answered with.
-use Rattle.std.specs.Prelude.{ℕ, Result, Ok, Err}
+use Rattle.std.specs.Prelude.{ℕ, Bool, true, false, Result, Ok, Err}
 use Rattle.plane.specs.Answers.{refusal_number}
 use Rattle.replies.specs.declared.reply.Reply.{Reply}
 use Rattle.replies.specs.declared.reply.Reply.TheVariants as reply
-use Rattle.desk.specs.declared.state.Stage.{Stage}
-use Rattle.desk.specs.declared.state.Stage.TheVariants.{Unmade, Unpainted, Painted}
 use Rattle.desk.specs.declared.state.Refused.{Refused}
 use Rattle.desk.specs.declared.state.Refused.TheVariants.{By, OutOfTurn, Unknown}
 
@@ -20,7 +18,6 @@ told (Ok r) line = r
 told (Err why) line = reply.No (refused_number why) line
 
 -- rules are not taken after a paint
-abbrev pub may_rule : Stage → Result (Unit {0}) Refused
-may_rule Unmade = Ok tt
-may_rule Unpainted = Ok tt
-may_rule Painted = Err OutOfTurn
+abbrev pub may_rule : Bool → Result (Unit {0}) Refused
+may_rule true = Err OutOfTurn
+may_rule false = Ok tt

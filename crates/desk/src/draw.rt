@@ -3,7 +3,7 @@ ghost use Rattle.std.specs.Prelude.{true, ◌≡◌, ℕ};
 ghost use Rattle.desk.specs.Answers.{told};
 ghost use Rattle.desk.specs.Model.{opened, painted_by};
 
-use crate::state::{Desk, Refused, Stage};
+use crate::state::{Desk, Refused};
 use drawing::create::create;
 use drawing::painting::paint;
 use plane::tile::Area;
@@ -23,7 +23,8 @@ impl Desk {
             t,
         )?;
         self.used = 0;
-        self.stage = Stage::Unpainted;
+        self.ready = true;
+        self.painted = false;
         Ok(Reply::Ok)
     }
 
@@ -39,9 +40,7 @@ impl Desk {
             a,
             kind,
         )?;
-        if self.stage == Stage::Unpainted {
-            self.stage = Stage::Painted;
-        }
+        self.painted = true;
         Ok(Reply::Ok)
     }
 }

@@ -5,22 +5,20 @@ ghost use Rattle.rules.specs.Words.{sound};
 ghost use Rattle.desk.specs.Answers.{told, may_rule};
 ghost use Rattle.desk.specs.Model.{kinds_of, added};
 
-use crate::state::{Desk, Refused, Stage};
+use crate::state::{Desk, Refused};
 use macros::macros::{put_rule, spacing, width};
 use plane::answer::Refusal;
 use replies::reply::Reply;
 use rules::rule::Rule;
 
-impl Stage {
-    // Rules are not taken after a paint.
-    fn may_rule(self) -> Result<(), Refused>
-        ensures { result ≡ may_rule self }
-    {
-        if self == Stage::Painted {
-            return Err(Refused::OutOfTurn);
-        }
-        Ok(())
+// Rules are not taken after a paint.
+fn may_rule(painted: bool) -> Result<(), Refused>
+    ensures { result ≡ may_rule painted }
+{
+    if painted {
+        return Err(Refused::OutOfTurn);
     }
+    Ok(())
 }
 
 impl Desk {
@@ -36,7 +34,7 @@ impl Desk {
         if 512 <= self.used {
             return Err(Refused::By(Refusal::Full));
         }
-        self.stage.may_rule()?;
+        may_rule(self.painted)?;
         put_rule(&mut self.rules, self.used, r);
         self.used += 1;
         Ok(Reply::Ok)
@@ -48,7 +46,7 @@ impl Desk {
         ensures { self.old.ready ≡ true → (line : ℕ) → (self.new, told result line) ≡ added self.old line (width_sound (kinds_of self.old) set d) (width (kinds_of self.old) set d reason) }
     {
         let used = width(&mut self.rules, self.used, self.material[3], set, d, reason)?;
-        self.stage.may_rule()?;
+        may_rule(self.painted)?;
         self.used = used;
         Ok(Reply::Ok)
     }
@@ -66,7 +64,7 @@ impl Desk {
     {
         let t = self.material[3];
         let used = spacing(&mut self.rules, self.used, t, a, b, d, touch, reason)?;
-        self.stage.may_rule()?;
+        may_rule(self.painted)?;
         self.used = used;
         Ok(Reply::Ok)
     }

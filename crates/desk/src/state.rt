@@ -7,16 +7,9 @@ ghost use Rattle.desk.specs.Model.{blank};
 use plane::answer::Refusal;
 use std::marker::Model;
 
-// How far the layout has come: no `new` was accepted; one was, and no paint since; a paint too, after which no rules are taken.
-#[derive(Clone, Copy, PartialEq, Eq)]
-pub enum Stage {
-    Unmade,
-    Unpainted,
-    Painted,
-}
-
-// Three tables with room for 400 tiles, a working room as long, a list with room for 512 rules, and how many of them are used. A contract
-// sees a Desk as its model (specs/Model): of the list only the used rules count, and nothing of the working room.
+// Three tables with room for 400 tiles, a working room as long, a list with room for 512 rules, and how many of them are used; was a `new`
+// accepted, and a paint since? A contract sees a Desk as its model (specs/Model): of the list only the used rules count, and nothing of the
+// working room. Two flags and no enum of three stages, since `answer` promises of a desk with any two.
 #[derive(Drop)]
 pub struct Desk {
     pub material: [u16; 3604],
@@ -25,7 +18,8 @@ pub struct Desk {
     pub work: [u16; 3604],
     pub rules: [u16; 4096],
     pub used: usize,
-    pub stage: Stage,
+    pub ready: bool,
+    pub painted: bool,
 }
 
 impl Model for Desk {
@@ -82,7 +76,8 @@ impl Desk {
             work: [0; 3604],
             rules: [0; 4096],
             used: 0,
-            stage: Stage::Unmade,
+            ready: false,
+            painted: false,
         }
     }
 }

@@ -33,10 +33,7 @@ pub fn is_apart(t: Tile, a: Area) -> bool
 pub fn low_tiles(p: &Painting<'_>) -> u16
     ensures { LowTo p.now.words p.now.brush.area result }
 {
-    let tiles = Slots {
-        words: p.table().words(),
-        count: usize::from(p.count()),
-    };
+    let tiles = Slots::from(p.table());
     tiles.place_of(past(p.width(), p.area().y2)) as u16
 }
 
@@ -182,10 +179,6 @@ pub fn rebuild(p: &Painting<'_>, work: &mut [u16], room: usize) -> Option<usize>
     if room < r {
         return None;
     }
-    let tiles = Slots {
-        words: p.table().words(),
-        count: n,
-    };
-    append(tiles, j, work, m);
+    append(Slots::from(p.table()), j, work, m);
     Some(r)
 }

@@ -34,7 +34,8 @@ pub struct Swept {
 }
 
 // Marks the errors of the waiting pieces of the lowest one's row, from that on, at most n, until the row ends or a piece has no room.
-// It takes the slices one by one and no Lent, since it only reads what waits.
+// It takes the slices one by one and no Lent, since it only reads what waits. TurnIn stands here, in sweep_row and in one_turn: it is said of
+// a layout, its rules and a piece together, so no one value carries it.
 fn mark_row(
     material: &[u16],
     errors: &mut [u16],

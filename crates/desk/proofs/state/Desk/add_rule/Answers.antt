@@ -11,7 +11,7 @@ returns-then-not-is_sound c = λ r line. rw (← c.self.view_is) (rule_bad c.sel
 pub returns-in_err-may_rule : goal.returns-in_err-may_rule
 returns-in_err-may_rule c = λ r line.
     let ok = sym c.is_sound.ensures ∙ c.if-not-is_sound.false in
-    let late = is_late c.self.inside.stage (sym c.may_rule.ensures ∙ c.in_err-may_rule.was) in
+    let late = is_late c.self.inside.painted (sym c.may_rule.ensures ∙ c.in_err-may_rule.was) in
     let e = err_from_is_err_and c.from_residual.result c.from_residual.ensures.1 in
     rw (← c.self.view_is, e.1, e.2, late.1) (rule_late c.self.inside c.args.r line _ ok (omega arith) late.0)
 
@@ -21,5 +21,5 @@ invariant_of-self c = rule_kept c.self.inside c.args.r c.self.invariant (omega a
 pub returns : goal.returns
 returns c = λ r line.
     let ok = sym c.is_sound.ensures ∙ c.if-not-is_sound.false in
-    let early = is_early c.self.inside.stage (sym c.may_rule.ensures ∙ c.in_ok-may_rule.was) in
+    let early = is_early c.self.inside.painted (sym c.may_rule.ensures ∙ c.in_ok-may_rule.was) in
     rw (← c.self.view_is) (rule_added c.self.inside c.args.r c.self.invariant (omega arith) c.put_rule.ensures line _ ok early)

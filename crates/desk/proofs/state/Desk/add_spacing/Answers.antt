@@ -19,7 +19,7 @@ invariant_of-self-in_err-may_rule c = late_kept c.self.inside c.self.invariant c
 pub returns-in_err-may_rule : goal.returns-in_err-may_rule
 returns-in_err-may_rule c = λ r line.
     let ready = rw (← c.self.view_is) at r in
-    let late = is_late c.self.inside.stage (sym c.may_rule.ensures ∙ c.in_err-may_rule.was) in
+    let late = is_late c.self.inside.painted (sym c.may_rule.ensures ∙ c.in_err-may_rule.was) in
     let e = err_from_is_err_and c.from_residual-in_err-may_rule.result c.from_residual-in_err-may_rule.ensures.1 in
     rw (← c.self.view_is, e.1, e.2, late.1) (macro_late c.self.inside c.self.invariant ready line c.in_ok-used.ensures late.0)
 
@@ -29,5 +29,5 @@ invariant_of-self-2 c = let a = c.args in macro_kept c.self.inside c.self.invari
 pub returns : goal.returns
 returns c = λ r line.
     let ready = rw (← c.self.view_is) at r in
-    let early = is_early c.self.inside.stage (sym c.may_rule.ensures ∙ c.in_ok-may_rule.was) in
+    let early = is_early c.self.inside.painted (sym c.may_rule.ensures ∙ c.in_ok-may_rule.was) in
     rw (← c.self.view_is) (macro_added c.self.inside c.self.invariant ready line c.in_ok-used.ensures early)
