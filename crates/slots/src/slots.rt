@@ -38,6 +38,7 @@ impl<'a> Slots<'a> {
         nth_tile(self.words, i)
     }
 
+    // That tiles are in order is asked of the look-ups by halves alone, so it is no fact of every Slots.
     // How many of the tiles come before t, by halves.
     pub fn place_of(self, t: Tile) -> usize
         requires in_order_to { InOrderTo self.words.now self.count }

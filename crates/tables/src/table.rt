@@ -1,6 +1,7 @@
 // Whole tables: of space, and of the picture after, made at the front of the working room and taken over. For callers that have tested what
 // they are lent. The table or working slice and its room stand apart: a struct that held the lent `&mut` slice would have to say in each
-// contract that it still holds that slice. The room is counted once, by the caller.
+// contract that it still holds that slice. The room is counted once, by the caller. Paintable and Small are facts of a table, a room and an area
+// together, asked of each table that a call is lent.
 ghost use Rattle.std.specs.Prelude.{◌≡◌, ◌+◌, ◌*◌, ◌<◌, ◌≤◌, length, replicate};
 ghost use Rattle.plane.specs.Picture.{table, space, painted, stamped};
 ghost use Rattle.plane.specs.Plane.{Plane};
