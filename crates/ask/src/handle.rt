@@ -1,6 +1,7 @@
 // A reading handle on one plane: the lent table with its width and height. The functions that take one are thin: each takes it apart and
 // calls one of query.rt. `point` and `neighbours`, whose parameters are plain, make a handle and ask it. All four are free functions, and no
-// methods of Handle, since docs/STATEMENTS.md names them so.
+// methods of Handle: docs/STATEMENTS.md names these calls, and a named call keeps its form. A side comes as a number, and 4 and more are
+// refused by 6: the calls take every number.
 ghost use Rattle.std.specs.Prelude.{◌≡◌};
 ghost use Rattle.plane.specs.Answers.{number, value};
 ghost use Rattle.plane.specs.Point.{Pointed};

@@ -18,7 +18,8 @@ pub fn point_at(t: &[u16], w: u16, h: u16, x: u16, y: u16) -> Result<u16, Refusa
     table.find(0, x, y).ok_or(Refusal::Place)
 }
 
-// The neighbours of tile i on a side, in a table w by h: how many, and their numbers in the slice.
+// The neighbours of tile i on a side, in a table w by h: how many, and their numbers in the slice. The side is a number, and 4 and more are
+// refused.
 #[tactic(auto, using(crate::proofs::Asked::neighboured_full, crate::proofs::Asked::neighboured_done))]
 pub fn neighbours_at(
     t: &[u16],

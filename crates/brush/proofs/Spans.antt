@@ -34,21 +34,6 @@ module _ {w h : ℕ} {q : Picture} where
   pub flat_part : {x y : ℕ} {s t : Tile} → Flat w h q x y s → t.kind ≡ s.kind → Holds t x y → ((i z : ℕ) → Holds t i z → Holds s i z) → Flat w h q x y t
   flat_part S l o f = flat_join S S refl l o (λ i z v. inl (f i z v))
 
-  -- the runs of a rectangle that is bounded on both sides
-  pub flat_steady : {x y : ℕ} {t : Tile} → Flat w h q x y t → t.bottom ≡ y
-      → (0 < t.left → (z : ℕ) → y ≤ z → z < t.top → q (t.left - 1) z ≡ t.kind → ⊥)
-      → (t.right < w → (z : ℕ) → y ≤ z → z < t.top → q t.right z ≡ t.kind → ⊥) → Steady w h q x y t
-  flat_steady {y = y} F b f g = record {
-    box = F.box;
-    here = F.here;
-    base = b;
-    runs = λ z u v. record {
-      all = λ i l r. F.all i z (omega arith);
-      start = λ o. f o z u v;
-      stop = λ o. g o z u v;
-    };
-  }
-
   -- a rectangle with a lower top
   lower : {x y m : ℕ} {r : Tile} → Flat w h q x y r → r.bottom ≡ y → y < m → m ≤ r.top → Flat w h q x y (record { left = r.left; bottom = r.bottom; right = r.right; top = m; kind = r.kind })
   lower R b f g = flat_part R refl (omega (arith, R.here)) (λ i z v. omega arith)

@@ -88,7 +88,8 @@ impl<'a> Painting<'a> {
         self.table.tile(i)
     }
 
-    // The tile of the table that holds (x,y), looked for from tile near. Here and in runs.rt near, x and y stand apart with their fact: each
+    // The tile of the table that holds (x,y), looked for from tile near. That both are in the window, Near, is a fact of a
+    // table, a tile and a square together, and each call has another square, so no type holds it. Here and in runs.rt near, x and y stand apart with their fact: each
     // look-up has a new square, so a type of them would be made and taken apart at every call.
     #[tactic(auto, using(crate::proofs::Shows::given_at))]
     pub fn seek(&self, near: u16, x: u16, y: u16) -> u16

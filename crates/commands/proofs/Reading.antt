@@ -6,16 +6,14 @@ use denote.Ref.{Bor}
 use Rattle.std.specs.Fn.{CalledAt}
 use Rattle.std.specs.List.{slice_split, onto_first}
 use Rattle.std.specs.Slice.Iter.{split_rest, split_done, split_callee, split_steps}
-use Rattle.std.specs.Iterator.Adapters.{skip_source, skip_count, skip_steps}
 use Rattle.std.proofs.lemmas.Iterator.{YieldsList}
-use Rattle.std.proofs.lemmas.Iterator.Adapters.{YieldsList-from_skip}
 use Rattle.std.proofs.lemmas.Iterator.Splits.{YieldsList-from_slice_split}
-use Rattle.text.specs.Part.{blank, onto, parts}
+use Rattle.text.specs.Part.{blank, onto, parts, parts_left}
 use mathlib.Core.List.{List, [], ◌∷◌, ◌++◌}
 use Prim.Native.Nat.{ℕ, zero, suc, ◌+◌, ◌<◌, ◌≤◌}
 use native.Mathlib.Numerals.{add-one}
 use native.Mathlib.Omega.{arith}
-use lib.ListN.{length, get_or, take, drop}
+use lib.ListN.{length, get_or, take}
 use lib.Seq.{take-suc, take_all, length-take-le}
 use borrow.Author.Tests.{ne_eqb}
 use Rattle.std.specs.Prelude.{Some, None}
@@ -86,11 +84,17 @@ parts_split (c ∷ l) = rw (parts_split l) (cut (blank c) c (parts l))
     cut false d [] = refl
     cut false d (w ∷ ws) = refl
 
--- an iterator over the parts of a line gives those after the first
-pub parts_given : {F : Type 0} (g : Mut F (Bor ℕ × Unit {0}) Bool) {f : F} {s : _} (text : List ℕ) → split_rest (skip_source s) ≡ text → split_done (skip_source s) ≡ false → split_callee (skip_source s) ≡ f → skip_count s ≡ 1
-    → ((x : ℕ) (b : Bool) (q : F) → CalledAt g f x b q → (q ≡ f) × (b ≡ blank x)) → YieldsList (skip_steps (split_steps g)) (λ x. x.now) s (drop 1 (parts text))
-parts_given g {s = s} text rest done callee count calls = subst (λ (ps : List (List ℕ)). YieldsList (skip_steps (split_steps g)) (λ x. x.now) s (drop 1 ps)) (parts_split text) (YieldsList-from_skip 1 (YieldsList-from_slice_split g blank text rest done callee calls) count)
+-- an iterator over the parts of what is left behind a blank
+pub parts_given : {F : Type 0} (g : Mut F (Bor ℕ × Unit {0}) Bool) {f : F} {s : _} (left : List ℕ) {c : ℕ} (line : List ℕ) → left ≡ c ∷ line → split_rest s ≡ line → split_done s ≡ false → split_callee s ≡ f
+    → ((x : ℕ) (b : Bool) (q : F) → CalledAt g f x b q → (q ≡ f) × (b ≡ blank x)) → YieldsList (split_steps g) (λ x. x.now) s (parts_left left)
+parts_given g {s = s} left line cut rest done callee calls = subst (λ (ps : List (List ℕ)). YieldsList (split_steps g) (λ x. x.now) s ps) (parts_split line ∙ sym (ap parts_left cut)) (YieldsList-from_slice_split g blank line rest done callee calls)
 
 pub read_none : (ws : List (List ℕ)) → ReadTo ws 0 []
 unfolding all_numbers values
 read_none ws = record { all = refl; are = refl }
+
+-- nothing is left of the line
+pub none_left : (left : List ℕ) → length left ≡ 0 → Good [] (parts_left left)
+unfolding all_numbers values
+none_left [] e = record { all = refl; are = refl }
+none_left (c ∷ l) e = absurd (omega (arith, e))

@@ -98,8 +98,9 @@ fn command_with(keyword: Keyword, numbers: &[u16]) -> Option<Command>
 fn command_bare(text: &[u8]) -> Option<Command>
     ensures { result ≡ command_bare text.now }
 {
-    let keyword = Keyword::of(&text[..part_end(text, 0)])?;
-    let numbers = Numbers::of(text)?;
+    let end = part_end(text, 0);
+    let keyword = Keyword::of(&text[..end])?;
+    let numbers = Numbers::of(&text[end..])?;
     command_with(keyword, numbers.as_slice())
 }
 

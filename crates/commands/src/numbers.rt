@@ -1,12 +1,12 @@
 // The numbers of a line: its parts after the first, each a number, and at most eight.
-ghost use Rattle.std.specs.Prelude.{[], ◌∷◌, ◌++◌, ◌≡◌, ◌≤◌, length, drop, MatchOption};
+ghost use Rattle.std.specs.Prelude.{[], ◌∷◌, ◌++◌, ◌≡◌, ◌≤◌, length, MatchOption};
 ghost use Rattle.commands.specs.Numbers.{Read};
-ghost use Rattle.text.specs.Part.{parts};
+ghost use Rattle.text.specs.Part.{parts_left};
 
 use std::marker::Model;
 use text::number::number_in;
 
-// A contract sees the numbers as a list.
+// The numbers of a line, eight at most. A contract sees them as a list.
 #[derive(Drop)]
 pub struct Numbers {
     words: [u16; 8],
@@ -24,6 +24,7 @@ impl Model for Numbers {
 }
 
 impl Numbers {
+    // No numbers yet.
     fn new() -> Numbers
         ensures { result ≡ [] }
     {
@@ -45,18 +46,22 @@ impl Numbers {
         Some(())
     }
 
+    // The numbers, in the order in which they stand.
     pub fn as_slice(&self) -> &[u16]
         ensures { result.now ≡ self.now }
     {
         &self.words[..self.count]
     }
 
-    // The parts of a line after its first; none if they are not the numbers of a command.
-    pub fn of(text: &[u8]) -> Option<Numbers>
-        ensures { Read result (drop 1 (parts text.now)) }
+    // The numbers in what is left of a line where its first part has ended: a blank, and the parts behind it; none if no command takes them.
+    pub fn of(left: &[u8]) -> Option<Numbers>
+        ensures { Read result (parts_left left.now) }
     {
         let mut numbers = Numbers::new();
-        for part in text.split(|b| *b == b' ').skip(1) {
+        let Some((_, line)) = left.split_first() else {
+            return Some(numbers);
+        };
+        for part in line.split(|b| *b == b' ') {
             numbers.push(number_in(part)?)?;
         }
         Some(numbers)

@@ -5,6 +5,7 @@ ghost use Rattle.edges.specs.Chains.{cell, Linked, Chained};
 use rules::list::RuleList;
 
 // The first rule of each cell, and after each rule the next of its own; 65535, which no rule has for its number, where there is none.
+// Words and no Option, which takes twice the room: they are filled anew for each piece.
 #[derive(Drop)]
 pub struct Chains {
     pub first: [u16; 256],

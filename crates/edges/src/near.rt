@@ -19,6 +19,8 @@ fn faces(r: Rule, a: u16, b: u16) -> bool
 }
 
 // A local picture and the rules that are looked for in it, chained by the cells of their types. A contract sees a Marker as the picture's types and the list.
+// The marks are a parameter of its methods and no field: it is lent on to read, and a field that is written would want, in each of their
+// contracts, a clause that it is still the same marks.
 #[derive(Drop)]
 struct Marker<'a> {
     picture: Picture<'a>,

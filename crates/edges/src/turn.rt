@@ -13,6 +13,7 @@ pub struct Turn {
 }
 
 // A square with all its neighbours in the picture, and the two directions in which its edge is looked at. They cross.
+// This and Side are two types, and no bound is a parameter: each function asks one of the two bounds, and its type says which.
 #[derive(Clone, Copy)]
 pub struct Crossing {
     pub turn: Turn,

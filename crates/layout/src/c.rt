@@ -33,11 +33,16 @@ fn pack_report(r: Result<Found, ReportError>) -> u64
                 + 8796093022208 * (found.tiles as u64)
         }
         Err(ReportError::BadRule(i)) => u64::from(Refusal::NoRule) + 256 * u64::from(i),
-        Err(ReportError::Lengths) => u64::from(Refusal::Lengths),
-        Err(ReportError::NoTable) => u64::from(Refusal::NoTable),
-        Err(ReportError::Place) => u64::from(Refusal::Place),
-        Err(ReportError::Full) => u64::from(Refusal::Full),
+        Err(e) => u64::from(Refusal::from(e)),
     }
+}
+
+// What check did and left, in its bits.
+fn pack_progress(p: Progress) -> u64
+    requires { (p.done ≤ 65535) × (p.left ≤ 65536) }
+    ensures { result ≡ pack_check 0 0 p.done p.left }
+{
+    131072 * (p.done as u64) + 8589934592 * (p.left as u64)
 }
 
 // Check's answer in one number.
@@ -46,13 +51,10 @@ fn pack_check(r: Result<Progress, CheckError>) -> u64
     ensures { result ≡ pack_check (check_number r) (check_place r) (check_done r) (check_left r) }
 {
     match r {
-        Ok(p) => 131072 * (p.done as u64) + 8589934592 * (p.left as u64),
-        Err(CheckError::Full(p)) => {
-            u64::from(Refusal::Full) + 131072 * (p.done as u64) + 8589934592 * (p.left as u64)
-        }
+        Ok(p) => pack_progress(p),
+        Err(CheckError::Full(p)) => u64::from(Refusal::Full) + pack_progress(p),
         Err(CheckError::BadRule(i)) => u64::from(Refusal::NoRule) + 256 * u64::from(i),
-        Err(CheckError::Lengths) => u64::from(Refusal::Lengths),
-        Err(CheckError::NoTable) => u64::from(Refusal::NoTable),
+        Err(e) => u64::from(Refusal::from(e)),
     }
 }
 
@@ -67,6 +69,7 @@ fn pack_value(r: Result<usize, Refusal>) -> u64
     }
 }
 
+// The call create: a new layout, whose window is one tile of space, with no error and nothing waiting.
 #[unsafe(no_mangle)]
 pub extern "C" fn layout_create(
     material: &mut [u16],
@@ -81,6 +84,7 @@ pub extern "C" fn layout_create(
     answer_number(create(material, errors, waiting, w, h, t))
 }
 
+// The call paint: an area of the material is set to a type, and waits.
 #[unsafe(no_mangle)]
 pub extern "C" fn layout_paint(
     material: &mut [u16],
@@ -99,6 +103,7 @@ pub extern "C" fn layout_paint(
     answer_number(paint(material, errors, waiting, work, a, kind))
 }
 
+// The call check: the lowest waiting piece is done, as often as told or until none waits.
 #[unsafe(no_mangle)]
 pub extern "C" fn layout_check(
     material: &[u16],
@@ -118,6 +123,7 @@ pub extern "C" fn layout_check(
     pack_check(check(material, errors, waiting, work, rules, usize::from(times)))
 }
 
+// The call report: whether an area is settled, and the errors recorded in it.
 #[unsafe(no_mangle)]
 pub extern "C" fn layout_report(
     material: &[u16],
@@ -145,6 +151,7 @@ pub extern "C" fn layout_report(
     pack_report(report(layout, rules, Area { x1, y1, x2, y2 }, tiles))
 }
 
+// The call point: the tile that holds a square of a table.
 #[unsafe(no_mangle)]
 pub extern "C" fn layout_point(table: &[u16], x: u16, y: u16) -> u64
     ensures { PointPacked table.now x y result }
@@ -152,6 +159,7 @@ pub extern "C" fn layout_point(table: &[u16], x: u16, y: u16) -> u64
     pack_value(point(table, x, y).map(usize::from))
 }
 
+// The call width: the rules that forbid a set's parts narrower than d, appended to a list.
 #[unsafe(no_mangle)]
 pub extern "C" fn layout_width(
     rules: &mut [u16],
@@ -166,6 +174,7 @@ pub extern "C" fn layout_width(
     pack_value(width(rules, usize::from(used), t, set, d, reason))
 }
 
+// The call spacing: the rules that forbid two sets nearer than d, appended to a list.
 #[unsafe(no_mangle)]
 pub extern "C" fn layout_spacing(
     rules: &mut [u16],

@@ -11,6 +11,7 @@ use replies::reply::Reply;
 use text::line::Line;
 use text::script::Script;
 
+// The bytes of the line so far, the desk, and how many lines have ended.
 #[derive(Drop)]
 pub struct State {
     pub text: Line,

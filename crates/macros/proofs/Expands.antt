@@ -1,19 +1,17 @@
 -- The ways through a macro: refused by its tests, or its rules written behind the used ones. For any macro, by its ranges and its rules.
-use Prim.Native.Nat.{ℕ, ◌+◌, ◌*◌, ◌/◌, ◌≤◌, ◌<◌}
-use mathlib.Core.Bool.{Bool, true, false}
-use mathlib.Core.List.{List, [], ◌∷◌, ◌++◌, append_assoc}
-use mathlib.Core.Logic.{inl, inr}
+use Prim.Native.Nat.{ℕ, ◌+◌, ◌*◌, ◌/◌, ◌≤◌}
+use mathlib.Core.Bool.{Bool, true}
+use mathlib.Core.List.{List, [], ◌++◌, append_assoc}
+use mathlib.Core.Logic.{inr}
 use mathlib.Core.Path.{◌≡◌, refl, sym, ◌∙◌, ap}
 use native.Mathlib.Omega.{arith}
 use lib.ListN.{length, take, drop, take-append-drop}
 use lib.Seq.{sets-eq}
-use Rattle.plane.specs.Refusal.{◌unless◌}
-use Rattle.plane.proofs.Basics.{tf}
-use Rattle.plane.proofs.Lowests.{all_hold, lowest_first, left_as_is}
+use Rattle.plane.proofs.Lowests.{all_hold}
 use Rattle.rules.specs.declared.rule.Rule.{Rule}
 use Rattle.rules.specs.Words.{words_of}
 use Rattle.rules.specs.Vetting.{ListLength, KindsIn, list_tests, ListTested}
-use Rattle.macros.specs.Expansion.{refused, appended, Expanded, Appended, Put}
+use Rattle.macros.specs.Expansion.{Expanded, Appended, Put}
 use Rattle.macros.proofs.Puts.{words_length}
 
 -- ---- the tests
@@ -29,33 +27,12 @@ listed {n} {used} {t} T =
 
 -- ---- the ways
 module _ {ws : List ℕ} {used t : ℕ} {ok : Bool} {rs : List Rule} where
-  -- refused by the length or T
-  pub expanded_no : {answer : ℕ} → ListTested (length ws) used t answer → 0 < answer → Expanded ws used t ok rs answer 0 ws
-  expanded_no {answer} T u = record {
-    outcome = record {
-      number = lowest_first (list_tests (length ws) used t) (4 unless (ok ≡ true) ∷ 7 unless (used + length rs ≤ length ws / 8) ∷ []) answer T.number u;
-      leaves = left_as_is answer (appended ws used rs) (refused ws) u;
-    };
-  }
-
-  -- out of its ranges
-  pub expanded_bad : Listed (length ws) used t → ok ≡ false → Expanded ws used t ok rs 4 0 ws
-  expanded_bad L b = record {
-    outcome = record {
-      number = inr (L.long, inr (L.kinds, inl ((λ e. tf (sym e ∙ b)), refl)));
-      leaves = left_as_is 4 (appended ws used rs) (refused ws) (omega arith);
-    };
-  }
-
   -- within them, and the list takes the rules or has no room
   pub expanded_by : {answer count : ℕ} {after : List ℕ} → Listed (length ws) used t → ok ≡ true → Appended ws used rs answer count after → Expanded ws used t ok rs answer count after
   expanded_by L e A = record { outcome = record { number = inr (L.long, inr (L.kinds, inr (e, A.outcome.number))); leaves = A.outcome.leaves } }
 
 -- ---- rules behind the used ones
 module _ {ws : List ℕ} {used : ℕ} {rs : List Rule} where
-  pub appended_full : length ws / 8 < used + length rs → Appended ws used rs 7 0 ws
-  appended_full u = record { outcome = record { number = inl ((λ v. omega arith), refl); leaves = left_as_is 7 (appended ws used rs) (refused ws) (omega arith) } }
-
   pub appended_done : {n : ℕ} {after : List ℕ} → used + length rs ≤ length ws / 8 → Put used n rs ws after → Appended ws used rs 0 n after
   appended_done {n} {after} u p =
       let e = words_length rs in

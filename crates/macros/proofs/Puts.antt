@@ -7,7 +7,7 @@ use mathlib.Core.Logic.{⊎_elim}
 use native.Mathlib.Omega.{arith}
 use native.Mathlib.Numerals.{add-one}
 use native.Mathlib.Nat.{add-suc, suc-add, add-zero, eq-or-lt_of_le, le_of_suc-le-suc}
-use lib.ListN.{length, set, drop, length-append}
+use lib.ListN.{length, set, length-append}
 use lib.Seq.{sets, length-sets, sets-eq, drop-drop}
 use borrow.Rule.Slice.PartMut.{put_mid}
 use Rattle.plane.specs.Picture.{joined}
@@ -74,13 +74,6 @@ put_start f n l = put_none n l
 
 pub put_length : {n r : ℕ} {rs : List Rule} {l l' : List ℕ} → Put n r rs l l' → length l' ≡ length l
 put_length {n} {r} {rs} {l} p = ap length p.words ∙ length-sets l (8 * n) (words_of rs)
-
--- rules that were written from the front, and the old words after them
-pub put_front : {r : ℕ} {rs : List Rule} {l l' : List ℕ} → Put 0 r rs l l' → 8 * length rs ≤ length l → l' ≡ words_of rs ++ drop (8 * length rs) l
-put_front {r} {rs} {l} p h =
-    let e = words_length rs in
-    let f : 0 + length (words_of rs) ≡ 8 * length rs = omega arith in
-    p.words ∙ sets-eq (words_of rs) l 0 (omega arith) ∙ ap (λ n. words_of rs ++ drop n l) f
 
 -- what has been joined is no longer than the whole
 joined_le : (f : ℕ → List Rule) (i n : ℕ) → i ≤ n → length (joined i f) ≤ length (joined n f)

@@ -1,5 +1,6 @@
 // The two macros. A macro is lent the whole list with the count of used rules, and writes behind them. The public calls are width and
-// spacing.
+// spacing. The list comes as its words and the count used, not as a RuleList of crate rules: that only reads, and a macro writes. The sets,
+// the distance and the reason are parameters, as docs/STATEMENTS.md and the C interface name them.
 ghost use Rattle.std.specs.Prelude.{length};
 ghost use Rattle.plane.specs.Answers.{number, value};
 ghost use Rattle.rules.specs.Vetting.{ListLength};

@@ -28,7 +28,8 @@ fn interior(w: u16, h: u16, block: Block, n: u16) -> bool
 }
 
 // Is everything within 2 k of the block of one type? The tile at the block's corner covers the window's part of it, and that is all of it or space.
-// This, cut, piece_rows and shows_rows take a plane's words and no Table, since docs/ARCHITECTURE.md tells of them for any tested table.
+// This, cut, piece_rows and shows_rows take words and no Table, since docs/ARCHITECTURE.md names them with that: a call that a page names
+// keeps what it takes.
 pub fn calm(t: &[u16], block: Block, k: u16) -> bool
     requires { Plane t.now × (16 * block.x < width t.now) × (16 * block.y < height t.now) × (k ≤ 16) }
     ensures { result ≡ true → Calm (width t.now) (height t.now) (picture_of t.now) k block.x block.y }

@@ -14,4 +14,3 @@ pub mod Shares
 pub mod Lowests
 pub mod Once
 pub mod Tiles
-pub mod Fills

@@ -5,9 +5,9 @@ use native.Mathlib.Omega.{arith}
 use mathlib.Core.Bool.{Bool, true, false, cond}
 use mathlib.Core.Path.{◌≡◌, refl, sym, ◌∙◌, ap}
 use mathlib.Core.Logic.{inl, inr, ⊎_elim}
-use mathlib.Core.List.{List, [], ◌∷◌, append-nil}
-use lib.ListN.{length, get_or, set, drop, length-append, length-drop, length-set, get_or-append}
-use lib.Seq.{get_or-set_same, get_or-set_other, get_or-append-add, get_or_at, get_or-drop, ext_get_or}
+use mathlib.Core.List.{List, [], ◌∷◌}
+use lib.ListN.{length, get_or, drop, length-append, length-drop, get_or-append}
+use lib.Seq.{get_or-append-add, get_or-drop, ext_get_or}
 use Rattle.plane.specs.declared.tile.Area.{Area}
 use Rattle.plane.specs.Area.{meets, tiles_in}
 use Rattle.plane.specs.Picture.{joined}
@@ -19,43 +19,6 @@ use Rattle.plane.proofs.Lists.{joined_few}
 -- before the first step
 pub listed_none : {most : ℕ} {out : List ℕ} → ListedTo [] most out out 0
 listed_none = record { entries = refl; long = refl; new = λ q u v. absurd (omega arith); old = λ q o. refl }
-
--- a step that lists nothing
-pub lists_none : {most : ℕ} {us : List ℕ} {m : ℕ} → Lists [] most us m us m
-lists_none = record { long = refl; step = λ ns out L. rw (append-nil ns) L }
-
-module _ {v most : ℕ} {us : List ℕ} {m : ℕ} where
-  -- a step that lists v: below `most` it stands at place m, and the rest of the slice stays
-  lists_one : (vs : List ℕ) → length vs ≡ length us → (m < most → get_or vs m 0 ≡ v) → ((q : ℕ) → (q ≡ m → m < most → ⊥) → get_or vs q 0 ≡ get_or us q 0) → Lists (v ∷ []) most us m vs (m + 1)
-  lists_one vs long here kept = record {
-    long = long;
-    step = λ ns out L.
-        let e = L.entries in
-        record {
-          entries = simp length-append (omega arith);
-          long = long ∙ L.long;
-          new = λ q a b.
-              ⊎_elim
-              (λ (u : q < m). kept q (λ i j. omega arith) ∙ (L.new q u b ∙ sym (get_or-append ns (v ∷ []) 0 q (omega arith))))
-              (λ (u : m ≤ q).
-              let i : q ≡ m = omega arith in
-              ap (λ (n : ℕ). get_or vs n 0) i ∙ (here (omega arith) ∙ sym (get_or_at ns v [] 0 q (omega arith))))
-              (lt_or_ge q m);
-          old = λ q o.
-              ⊎_elim
-              (λ (u : m + 1 ≤ q). kept q (λ i j. omega arith) ∙ L.old q (inl (omega arith)))
-              (λ (u : most ≤ q). kept q (λ i j. omega arith) ∙ L.old q (inr u))
-              o;
-        };
-  }
-
-  -- there is room for v
-  pub lists_stored : m < most → most ≤ length us → Lists (v ∷ []) most us m (set us m v) (m + 1)
-  lists_stored a b = lists_one (set us m v) (length-set us m v) (λ u. get_or-set_same us m v 0 (omega arith)) (λ q u. get_or-set_other us m q v 0 (λ e. u e a))
-
-  -- there is none
-  pub lists_passed : most ≤ m → Lists (v ∷ []) most us m us (m + 1)
-  lists_passed a = lists_one us refl (λ u. absurd (omega arith)) (λ q u. refl)
 
 -- a step behind the lists f 0 .. f (i - 1) that lists f i
 pub listed_more : (f : ℕ → List ℕ) (i : ℕ) {most m r : ℕ} {out us vs : List ℕ} → ListedTo (joined i f) most out us m → Lists (f i) most us m vs r → ListedTo (joined (i + 1) f) most out vs r

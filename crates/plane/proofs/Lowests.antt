@@ -8,7 +8,7 @@ use Rattle.std.specs.Prelude.{Result, Ok, Err}
 use Rattle.plane.specs.declared.answer.Refusal.{Refusal}
 use Rattle.plane.specs.declared.answer.Refusal.TheVariants.{Lengths, Sizes, NoTable, NoRule, Kind, Place, Full}
 use Rattle.plane.specs.Answers.{refusal_number, number}
-use Rattle.plane.specs.Refusal.{Lowest, if_done, Outcome}
+use Rattle.plane.specs.Refusal.{Lowest, if_done}
 
 -- the numbers rise from above m on
 abbrev pub Rising : ℕ → List (ℕ × Type 0) → Type 0
@@ -67,20 +67,10 @@ told_no {R} cs p e = subst (λ (b : Result R Refusal). Lowest cs (number b)) e p
 pub told_done : {R : Type 0} (cs : List (ℕ × Type 0)) {a : Result R Refusal} {x : R} → Rising 0 cs → Lowest cs (number a) → a ≡ Ok x → AllHold cs
 told_done {R} cs r p e = all_hold 0 cs r (subst (λ (b : Result R Refusal). Lowest cs (number b)) e p)
 
--- refused by the first step, whatever the second would have tested
-pub refused_first : {A R : Type 0} (cs ds : List (ℕ × Type 0)) {a : Result R Refusal} {why : Refusal} {old new : A} → Lowest cs (number a) → a ≡ Err why → Outcome (cs ++ ds) old new (refusal_number why) old
-refused_first {A} {R} cs ds {a} {why} {old} {new} p e = record {
-  number = lowest_first cs ds (refusal_number why) (told_no cs p e) (refusal_positive why);
-  leaves = left_as_is (refusal_number why) new old (refusal_positive why);
-}
-
 -- passed by the first step, and answered by the second
 pub lowest_after : (cs ds : List (ℕ × Type 0)) (a : ℕ) → AllHold cs → Lowest ds a → Lowest (cs ++ ds) a
 lowest_after [] ds a p q = q
 lowest_after (c ∷ cs) ds a p q = inr (p.0, lowest_after cs ds a p.1 q)
-
-pub passed_first : {A R : Type 0} (cs ds : List (ℕ × Type 0)) {a : Result R Refusal} {x : R} {n : ℕ} {old new after : A} → Rising 0 cs → Lowest cs (number a) → a ≡ Ok x → Lowest ds n → after ≡ if_done n new old → Outcome (cs ++ ds) old new n after
-passed_first {A} {R} cs ds {a} {x} {n} r p e q l = record { number = lowest_after cs ds n (told_done cs r p e) q; leaves = l }
 
 -- the numbers of a test of tables rise
 pub one_three : (0 < 1) × ((1 < 3) × Unit {0})

@@ -30,13 +30,6 @@ module _ {ws : List ℕ} (P : Plane ws) where
   pub above : {k r : ℕ} → k < count ws → word ws k 3 < height ws → r ≡ word ws k 8 → Names ws r (word ws k 2 - 1) (word ws k 3)
   above {k} u a e = rw e ((P.stitches k u).rt.0 a)
 
-  -- a walk ends at the tile that holds the square beside tile i
-  pub right_last : {i y k : ℕ} → OnRight ws i y k → word ws k 1 ≤ y → Names ws k (word ws i 2) y
-  right_last {i} {y} {k} s a = let b = P.boxes.box k s.counted in record { counted = s.counted; held = omega arith }
-
-  pub left_last : {i y k : ℕ} → 0 < word ws i 0 → OnLeft ws i y k → y < word ws k 3 → Names ws k (word ws i 0 - 1) y
-  left_last {i} {y} {k} u s a = let b = P.boxes.box k s.counted in record { counted = s.counted; held = omega arith }
-
   module _ {i y : ℕ} (o : OnRow ws i y) where
     -- the tile that holds a square beside tile i, on a row z of both tile i and the walk
     right_at : {k : ℕ} (z : ℕ) → y ≤ z → z < word ws i 3 → Names ws k (word ws i 2) z → OnRight ws i y k

@@ -1,4 +1,4 @@
--- What the contracts of the tile plane cite: the paper's pictures, strips and tables, and what each call answers.
+-- What the contracts of the tile plane cite: pictures, strips and tables, and what each call answers.
 pub mod Picture
 pub mod Strips
 pub mod Words

@@ -1,5 +1,9 @@
 // From a tile to the tile that holds a square, along the stitches: up or down to the square's row, then along that row.
 // Each step comes nearer, since a table's stitches are true; so it ends without a limit on the steps.
+// The six walks come as three pairs: up_to and down_to, left_of and right_of, leftward and rightward. A pair is no one function with the
+// direction as its parameter: each of the two asks and promises its own side of a tile, and the comparison turns round, so the parameter
+// would decide every line and clause.
+// That a tile is on a row is said as OnRow in each clause, by no type: it is a fact of a table, a tile and a row together, new at each step.
 ghost use Rattle.std.specs.Prelude.{◌≡◌, ◌-◌, ◌<◌, ◌≤◌};
 ghost use Rattle.plane.specs.Plane.{Plane, Names};
 ghost use Rattle.plane.specs.Point.{FoundAt, OnRow};
@@ -14,6 +18,7 @@ impl<'a> Table<'a> {
         ensures { OnRow self.now result y }
     {
         let mut k = i;
+        // A while loop: the step is to the tile that a stitch names, the one above.
         while self.top(k) <= y {
             k = self.rt(k);
         }
@@ -26,6 +31,7 @@ impl<'a> Table<'a> {
         ensures { OnRow self.now result y }
     {
         let mut k = i;
+        // A while loop: the step is to the tile that a stitch names, the one below.
         while y < self.bottom(k) {
             k = self.lb(k);
         }
@@ -50,6 +56,7 @@ impl<'a> Table<'a> {
         ensures { Names self.now result (word self.now i 2) y }
     {
         let mut k = self.tr(i);
+        // A while loop: the step is to the tile that a stitch names. It is down_to's, but keeps more: each tile begins where tile i ends.
         while y < self.bottom(k) {
             k = self.lb(k);
         }
@@ -63,6 +70,7 @@ impl<'a> Table<'a> {
         ensures { Names self.now result (word self.now i 0 - 1) y }
     {
         let mut k = self.bl(i);
+        // A while loop: the step is to the tile that a stitch names. It is up_to's, but keeps more: each tile ends where tile i begins.
         while self.top(k) <= y {
             k = self.rt(k);
         }
@@ -76,6 +84,7 @@ impl<'a> Table<'a> {
         ensures { Names self.now result x y }
     {
         let mut k = i;
+        // A while loop: the step is to the tile that a stitch names, or one beside that.
         while self.right(k) <= x {
             k = self.right_of(k, y);
         }
@@ -89,6 +98,7 @@ impl<'a> Table<'a> {
         ensures { Names self.now result x y }
     {
         let mut k = i;
+        // A while loop: the step is to the tile that a stitch names, or one beside that.
         while x < self.left(k) {
             k = self.left_of(k, y);
         }

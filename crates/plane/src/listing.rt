@@ -1,4 +1,6 @@
 // Writing a list of numbers to a lent slice. A listing goes twice over what it lists: to count, writing none, and then to write all.
+// The slice, the place m and the bound most are parameters: a struct that holds a lent `&mut` slice has to say in each contract that it still
+// holds that slice.
 ghost use Rattle.std.specs.Prelude.{[], ◌∷◌, ◌≡◌, ◌+◌, ◌≤◌, length};
 ghost use Rattle.plane.specs.Listing.{Lists};
 

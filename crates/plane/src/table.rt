@@ -8,6 +8,7 @@ use crate::tile::Tile;
 use crate::words::{nth_tile, word_at};
 use std::marker::Model;
 
+// The words of a table. Each look-up says again that they are a plane's: who is lent a Table learns its invariant from a call alone.
 #[derive(Drop)]
 pub struct Table<'a> {
     words: &'a [u16],

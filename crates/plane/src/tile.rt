@@ -4,6 +4,7 @@ ghost use Rattle.plane.specs.Strips.{Holds, Precedes};
 ghost use Rattle.plane.specs.Area.{AreaIn, meets, shared};
 ghost use Rattle.plane.specs.Words.{Says};
 
+// A tile: the squares with left <= x < right and bottom <= y < top, all of one type.
 #[derive(Clone, Copy, PartialEq, Eq)]
 pub struct Tile {
     pub left: u16,

@@ -48,7 +48,8 @@ pub fn table_length(n: usize) -> bool
     1 <= c && c <= 3600 && n == 4 + 9 * c
 }
 
-// Are width, height and number of types in their ranges?
+// Are width, height and number of types in their ranges? The rules test the last alone, by kinds_in: a call of it in place of two comparisons
+// would be no plainer, since a table's sizes are one statement, InRange, and a rule list's T is another.
 pub fn in_range(w: u16, h: u16, t: u16) -> bool
     ensures { Says result (InRange w h t) }
 {

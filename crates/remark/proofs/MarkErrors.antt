@@ -59,9 +59,12 @@ calm_rows {ms} {rules} {used} {k} {bx} {by} K C = record {
 
 -- ---- tables and pictures
 -- a table painted over where it has room
-pub remade : {c : ℕ} {ws : List ℕ} {a : Area} {q : Picture} (vs : List ℕ) (r : Option ℕ) → Paintable c ws a → PaintedOver c ws q vs r → Remade ws q (is_some r) vs
-remade {c} {ws} {a} {q} vs (Some n) T P = record { fits = sym (le-leb (length (tiles (width ws) (height ws) q)) (room_in (length ws)) (omega (arith, P.number, P.room, paintable_room T))); leaves = made (paintable_room T) P }
-remade {c} {ws} {a} {q} vs None T P = record { fits = sym (lt-leb (length (tiles (width ws) (height ws) q)) (room_in (length ws)) (omega (arith, P.full, paintable_room T))); leaves = P.stays }
+pub remade : {c n : ℕ} {ws : List ℕ} {a : Area} {q : Picture} (vs : List ℕ) (u : Unit {0}) → Paintable c ws a → PaintedOver c ws q vs (Some n) → Remade ws q (Some u) vs
+remade {c} {n} {ws} {a} {q} vs u T P = record { fits = sym (le-leb (length (tiles (width ws) (height ws) q)) (room_in (length ws)) (omega (arith, P.number, P.room, paintable_room T))); leaves = made (paintable_room T) P }
+
+-- or left as it was where it has none
+pub unmade : {c : ℕ} {ws : List ℕ} {a : Area} {q : Picture} (vs : List ℕ) → Paintable c ws a → PaintedOver c ws q vs None → Remade ws q None vs
+unmade {c} {ws} {a} {q} vs T P = record { fits = sym (lt-leb (length (tiles (width ws) (height ws) q)) (room_in (length ws)) (omega (arith, P.full, paintable_room T))); leaves = P.stays }
 
 -- a table has its picture's tiles
 pub count_tiles : {c : ℕ} {ws : List ℕ} → IsTable c ws → count ws ≡ length (tiles (width ws) (height ws) (picture_of ws))
@@ -73,15 +76,15 @@ pub like_agree : (ws : List ℕ) {p q : Picture} → ((x y : ℕ) → x < width 
 unfolding table
 like_agree ws {p} {q} f = ap (written (room_in (length ws)) (width ws) (height ws) (kinds ws)) (tiles_agree (width ws) (height ws) p q f)
 
-agree_to : {ws vs : List ℕ} {r : Bool} {p q : Picture} → ((x y : ℕ) → x < width ws → y < height ws → p x y ≡ q x y) → Remade ws p r vs → Remade ws q r vs
+agree_to : {ws vs : List ℕ} {r : Option (Unit {0})} {p q : Picture} → ((x y : ℕ) → x < width ws → y < height ws → p x y ≡ q x y) → Remade ws p r vs → Remade ws q r vs
 agree_to {ws} {vs} {r} {p} {q} f R = record {
   fits = R.fits ∙ ap (λ (n : ℕ). leb n (room_in (length ws))) (ap length (tiles_agree (width ws) (height ws) p q f));
-  leaves = R.leaves ∙ ap (λ (z : List ℕ). cond r z ws) (like_agree ws f);
+  leaves = R.leaves ∙ ap (λ (z : List ℕ). cond (is_some r) z ws) (like_agree ws f);
 }
 
 -- a table shows its own picture
-itself : {ws : List ℕ} → IsTable (room_in (length ws)) ws → Remade ws (picture_of ws) true ws
-itself {ws} T = record { fits = sym (le-leb (length (tiles (width ws) (height ws) (picture_of ws))) (room_in (length ws)) (omega (arith, count_tiles T, T.room))); leaves = T.same }
+itself : {ws : List ℕ} (u : Unit {0}) → IsTable (room_in (length ws)) ws → Remade ws (picture_of ws) (Some u) ws
+itself {ws} u T = record { fits = sym (le-leb (length (tiles (width ws) (height ws) (picture_of ws))) (room_in (length ws)) (omega (arith, count_tiles T, T.room))); leaves = T.same }
 
 -- ---- what the steps are handed
 module _ {ms es work rules : List ℕ} {used bx by : ℕ} (P : MarkIn ms es work rules used bx by) where
@@ -130,19 +133,19 @@ module _ {ms es work rules : List ℕ} {used bx by : ℕ} (P : MarkIn ms es work
     for_halo = ap {B = Picture} (λ (n : ℕ). remarked (width ms) (height ms) (picture_of ms) (rules_of rules used) n bx by (picture_of es)) e
 
     -- the area with the rows stamped is the piece's
-    pub as_errors : {r : Bool} {vs : List ℕ} → Remade es (stamped (picture_of es) a rows) r vs → Remade es (errors_near ms es rules used bx by) r vs
+    pub as_errors : {r : Option (Unit {0})} {vs : List ℕ} → Remade es (stamped (picture_of es) a rows) r vs → Remade es (errors_near ms es rules used bx by) r vs
     as_errors {r} {vs} W =
         let M = P.marks in
         subst (λ (q : Picture). Remade es q r vs) for_halo
         (agree_to (λ x y u v. ap (λ (b : Area). stamped (picture_of es) b rows x y) f ∙ stamped_piece (picture_of es) R x y (omega (arith, M.wide)) (omega (arith, M.tall))) W)
 
     -- where the errors show its rows already, they stay
-    pub errors_stay : ShowsRows (picture_of es) a rows → Remade es (errors_near ms es rules used bx by) true es
-    errors_stay S = as_errors (agree_to (λ x y u v. sym (shown_stamped (picture_of es) a rows S x y)) (itself P.marks.table))
+    pub errors_stay : (u : Unit {0}) → ShowsRows (picture_of es) a rows → Remade es (errors_near ms es rules used bx by) (Some u) es
+    errors_stay u S = as_errors (agree_to (λ x y u v. sym (shown_stamped (picture_of es) a rows S x y)) (itself u P.marks.table))
 
     -- the same of the words and of the room, with the test as a premise, as `remark` looks for them
     pub kept_words : {b : Bool} → (b ≡ true → ShowsRows (picture_of es) a rows) → b ≡ true → table_like es (errors_near ms es rules used bx by) ≡ es
-    kept_words S t = sym (errors_stay (S t)).leaves
+    kept_words S t = sym (errors_stay tt (S t)).leaves
 
     pub kept_room : {b : Bool} → (b ≡ true → ShowsRows (picture_of es) a rows) → b ≡ true → leb (length (tiles (width es) (height es) (errors_near ms es rules used bx by))) (room_in (length es)) ≡ true
-    kept_room S t = sym (errors_stay (S t)).fits
+    kept_room S t = sym (errors_stay tt (S t)).fits

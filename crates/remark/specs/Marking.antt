@@ -1,5 +1,6 @@
 -- What the functions that mark a piece's errors, and end its waiting, promise.
-use Rattle.std.specs.Prelude.{ℕ, ◌*◌, ◌<◌, Bool, cond, ◌≡◌, List, leb, length}
+use Rattle.std.specs.Prelude.{ℕ, ◌*◌, ◌<◌, cond, ◌≡◌, List, leb, length, Option}
+use Rattle.std.specs.Option.{is_some}
 use Rattle.plane.specs.Picture.{Picture, tiles}
 use Rattle.plane.specs.Words.{width, height, kinds, picture_of, room_in, TableLength, PictureTable}
 use Rattle.tables.specs.Like.{table_like}
@@ -25,6 +26,6 @@ abbrev pub errors_near : List ℕ → List ℕ → List ℕ → ℕ → ℕ → 
 errors_near material errors rules used bx by = remarked (width material) (height material) (picture_of material) (rules_of rules used) (halo_of rules used) bx by (picture_of errors)
 
 -- a table that is to show the picture q: has it room, and its words afterwards
-pub record Remade (ws : List ℕ) (q : Picture) (r : Bool) (after : List ℕ) : Type 0 where
-  pub fits : r ≡ leb (length (tiles (width ws) (height ws) q)) (room_in (length ws))
-  pub leaves : after ≡ cond r (table_like ws q) ws
+pub record Remade (ws : List ℕ) (q : Picture) (r : Option (Unit {0})) (after : List ℕ) : Type 0 where
+  pub fits : is_some r ≡ leb (length (tiles (width ws) (height ws) q)) (room_in (length ws))
+  pub leaves : after ≡ cond (is_some r) (table_like ws q) ws

@@ -29,31 +29,33 @@ fn near_marks(material: &[u16], rules: RuleList<'_>, piece: Block, k: u16) -> [u
     piece_rows(material, rules, piece, k)
 }
 
-// Marks the errors of the area near; false, with errors as they were, where they have no room.
+// Marks the errors of the area near; None, with errors as they were, where they have no room.
 fn mark_errors(
     errors: &mut [u16],
     near: Area,
     rows: [u64; 48],
     work: &mut [u16],
     room: usize,
-) -> bool
+) -> Option<()>
     requires paintable { Paintable room errors.old near }
     requires small { (Small near) × (length work.old ≡ length errors.old) }
     ensures { Remade errors.old (stamped (picture_of errors.old) near rows) result errors.new }
 {
-    stamp_table(errors, near, rows, work, room).is_some()
+    stamp_table(errors, near, rows, work, room)?;
+    Some(())
 }
 
-// The block waits no more; false, with waiting as it was, where it has no room.
-pub fn end_waiting(waiting: &mut [u16], block: Area, work: &mut [u16], room: usize) -> bool
+// The block waits no more; None, with waiting as it was, where it has no room.
+pub fn end_waiting(waiting: &mut [u16], block: Area, work: &mut [u16], room: usize) -> Option<()>
     requires paintable { Paintable room waiting.old block }
     requires waiting_value { (kinds waiting.old ≡ 2) × (length work.old ≡ length waiting.old) }
     ensures { Remade waiting.old (painted (picture_of waiting.old) block 0) result waiting.new }
 {
-    paint_table(waiting, block, 0, work, room).is_some()
+    paint_table(waiting, block, 0, work, room)?;
+    Some(())
 }
 
-// Marks the errors of the piece; false, with errors as they were, where they have no room. Where its marks are recorded already, most
+// Marks the errors of the piece; None, with errors as they were, where they have no room. Where its marks are recorded already, most
 // often by the pieces beside it, it leaves them alone.
 #[tactic(auto, using(crate::proofs::MarkErrors::kept_words, crate::proofs::MarkErrors::kept_room))]
 pub fn remark(
@@ -62,7 +64,7 @@ pub fn remark(
     work: &mut [u16],
     rules: RuleList<'_>,
     piece: Block,
-) -> bool
+) -> Option<()>
     requires { MarkIn material.now errors.old work.old rules.words.now rules.used piece.x piece.y }
     ensures { Remade errors.old (errors_near material.now errors.old rules.entry.words.now rules.entry.used piece.x piece.y) result errors.new }
 {
@@ -70,7 +72,7 @@ pub fn remark(
     let near = near_area(material[1], material[2], piece, k);
     let rows = near_marks(material, rules, piece, k);
     if shows_rows(errors, near, &rows) {
-        return true;
+        return Some(());
     }
     mark_errors(errors, near, rows, work, room_in(material.len()))
 }

@@ -1,4 +1,4 @@
--- Document 01's example session, by computation: what the program writes on its input (crates/session/stdin) is its output (crates/session/stdout).
+-- The specification's example session, by computation: what the program writes on its input (crates/session/stdin) is its output (crates/session/stdout).
 use Rattle.std.specs.Prelude.{◌≡◌, refl, [], ◌∷◌}
 use Rattle.plane.specs.Picture.{extent, table, tiles, painted, sum_to}
 use Rattle.plane.specs.Words.{kind_in, up_to}

@@ -35,6 +35,7 @@ impl Wire {
         }
     }
 
+    // Has the input not ended, and no write failed?
     pub fn is_open(&self) -> bool
         ensures { result ≡ self.now.open }
     {

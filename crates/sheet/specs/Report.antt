@@ -1,4 +1,4 @@
--- What report promises: settled, and the errors of an area. Two halves, for they will part.
+-- What report promises: whether an area is settled, and the errors recorded in it.
 use Rattle.std.specs.Prelude.{ℕ, ◌+◌, ◌-◌, min, cond, ◌≡◌, List, [], ◌∷◌, length, eqb}
 use Rattle.plane.specs.declared.tile.Area.{Area}
 use Rattle.plane.specs.Area.{AreaIn, squares_in, tiles_in}

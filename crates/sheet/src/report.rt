@@ -1,4 +1,4 @@
-// Report on an area: is it settled, and what errors are recorded in it. The two halves know nothing of one another.
+// Report on an area: is it settled, which waiting alone says, and what errors are recorded in it, which errors alone says.
 ghost use Rattle.std.specs.Prelude.{◌≡◌, ◌≤◌, cond};
 ghost use Rattle.plane.specs.Answers.{refusal_number};
 ghost use Rattle.plane.specs.Area.{AreaIn};
@@ -72,6 +72,7 @@ pub struct Errors {
 }
 
 // The squares of a window w by h within k of an area.
+// AreaIn stands here and in the two below: it is said of an area and a window together, so neither carries it.
 fn around(w: u16, h: u16, k: u16, a: Area) -> Area
     requires { (AreaIn w h a) × (w ≤ 4096) × (h ≤ 4096) × (k ≤ 16) }
     ensures { result ≡ around w h k a }

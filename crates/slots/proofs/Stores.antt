@@ -1,18 +1,10 @@
--- The words of a slice: one store, and two lists that agree on a tile. No picture is named here.
+-- The words of a slice: two lists that agree on a tile. No picture is named here.
 use Prim.Native.Nat.{ℕ, ◌+◌, ◌*◌, ◌<◌}
 use native.Mathlib.Omega.{arith}
 use mathlib.Core.Path.{◌≡◌}
 use mathlib.Core.List.{List}
-use lib.ListN.{length, get_or, set}
-use lib.Seq.{get_or-set_same, get_or-set_other}
+use lib.ListN.{get_or}
 use Rattle.plane.specs.Words.{tile_of}
-
--- ---- one store
-pub store_hit : (l : List ℕ) (i m v : ℕ) → m ≡ i → i < length l → get_or (set l i v) m 0 ≡ v
-store_hit l i m v e h = rw e (get_or-set_same l i v 0 h)
-
-pub store_miss : (l : List ℕ) (i m v : ℕ) → (m ≡ i → ⊥) → get_or (set l i v) m 0 ≡ get_or l m 0
-store_miss l i m v h = get_or-set_other l i m v 0 h
 
 -- two lists that agree on the words of a tile agree on the tile
 pub tile_agree : (vs ws : List ℕ) (i j : ℕ) → ((k : ℕ) → k < 5 → get_or vs (4 + 9 * i + k) 0 ≡ get_or ws (4 + 9 * j + k) 0) → tile_of vs i ≡ tile_of ws j

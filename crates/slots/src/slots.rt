@@ -1,4 +1,6 @@
-// The words of the working slice: its first tiles put, moved and looked up. No picture is named here.
+// The words of the working slice: its first tiles put, moved and looked up. No picture is named here. What only reads is asked of Slots; what
+// writes takes the slice and the number of its tiles apart, since a struct that holds a lent `&mut` slice has to say in each contract that it
+// still holds that slice.
 ghost use Rattle.std.specs.Prelude.{◌+◌, ◌-◌, ◌*◌, ◌<◌, ◌≤◌, ◌≡◌, length};
 ghost use Rattle.plane.specs.Words.{count, tile_of, Says};
 ghost use Rattle.slots.specs.Slots.{InOrderTo, PutTile, PlaceOf, ShiftedUp, Appended, Fresh, WithTile, Sought, Holder, Under, Past, Sorted};
@@ -36,6 +38,7 @@ impl<'a> Slots<'a> {
         nth_tile(self.words, i)
     }
 
+    // That tiles are in order is asked of the look-ups by halves alone, so it is no fact of every Slots.
     // How many of the tiles come before t, by halves.
     pub fn place_of(self, t: Tile) -> usize
         requires in_order_to { InOrderTo self.words.now self.count }

@@ -44,7 +44,7 @@ fn guess_under(work: &mut [u16], n: usize, starts: &[u16; 4096], i: u16, j: u16,
 {
     let mut k = i;
     let mut x = 0;
-    // A loop without end: each step is the end of the tile found, and what stops it is found in its middle.
+    // A loop that ends in its middle: where a tile ends is known only once it is found, and that is the step.
     loop {
         guess(work, n, k, 8, j);
         let tiles = Slots {

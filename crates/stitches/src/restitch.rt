@@ -1,4 +1,5 @@
 // The stitches of a table that has most tiles of another: those to tiles that both have are taken over from the other, and the rest is looked for.
+// Alike ties the two tables to what they share, Shared, and the working slice changes with each stitch that is put: no one value carries it.
 ghost use Rattle.std.specs.Prelude.{IfSome, ◌≡◌, ◌+◌, ◌-◌, ◌*◌, ◌<◌, ◌≤◌, length};
 ghost use Rattle.plane.specs.Strips.{Box};
 ghost use Rattle.plane.specs.Words.{count, height, tile_of, width};

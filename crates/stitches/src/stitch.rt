@@ -1,4 +1,6 @@
-// The stitches of the first n tiles: guesses at all of them in one sweep, each then tested, and looked for where it is wrong.
+// The stitches of the first n tiles: guesses at all of them in one sweep, each then tested, and looked for where it is wrong. The working slice
+// and n stand apart, here and in the other files: a struct that held the lent `&mut` slice would have to say in each contract that it still
+// holds that slice.
 ghost use Rattle.std.specs.Prelude.{◌≡◌, ◌+◌, ◌*◌, ◌<◌, ◌≤◌, length};
 ghost use Rattle.plane.specs.Words.{tile_of};
 ghost use Rattle.stitches.specs.Stitch.{Ends, StitchTo, Tight, LinksOf, PutLinks, SameTiles, StitchedTo};

@@ -53,10 +53,7 @@ module _ {w h : ℕ} {q : Picture} {ws : List ℕ} {n : ℕ} (P : Part w h q ws 
       (lt_or_ge s.bottom b.bottom))
       (lt_or_ge b.bottom s.bottom)
 
-  -- nothing more, and this strip more
-  pub grown_same : {f : ℕ} → Grown w h q f ws n ws n
-  grown_same = record { more = omega arith; part = P; keeps = λ i u. (i, u, refl); only = λ i u. inr (i, u, refl) }
-
+  -- this strip more
   pub grown_with : {vs : List ℕ} {f : ℕ} {s : Tile} → Strip w h q s → s.bottom < f → WithTile ws vs n s → Grown w h q f ws n vs (n + 1)
   grown_with {vs} {f} {s} S o W = record {
     more = omega arith;

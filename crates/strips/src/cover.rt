@@ -1,7 +1,8 @@
 // The rebuild, by covering: of the tiles that begin in the row above the area or lower, those that the area does not touch and those that
 // begin below it are kept; then every square in and beside the area that no tile holds has its strip put in; and the tiles that begin
 // higher, which come after all these, are put behind. Where there are more strips than room, there is no answer. The painting, the working
-// slice and its room stand apart: a struct that held the lent slice would have to say in each contract that it still holds that slice.
+// slice and its room stand apart: a struct that held the lent slice would have to say in each contract that it still holds that slice. What the
+// slice has come to, Working, is said of the slice, its count and the painting together, anew after each tile that is put in.
 ghost use Rattle.std.specs.Prelude.{IfSome, ◌≡◌, ◌+◌, ◌*◌, ◌-◌, ◌<◌, ◌≤◌, min, length};
 ghost use Rattle.plane.specs.Words.{count, Says};
 ghost use Rattle.brush.specs.Brush.{Near, wide, tall, goal_of};
@@ -33,10 +34,7 @@ pub fn is_apart(t: Tile, a: Area) -> bool
 pub fn low_tiles(p: &Painting<'_>) -> u16
     ensures { LowTo p.now.words p.now.brush.area result }
 {
-    let tiles = Slots {
-        words: p.table().words(),
-        count: usize::from(p.count()),
-    };
+    let tiles = Slots::from(p.table());
     tiles.place_of(past(p.width(), p.area().y2)) as u16
 }
 
@@ -182,10 +180,6 @@ pub fn rebuild(p: &Painting<'_>, work: &mut [u16], room: usize) -> Option<usize>
     if room < r {
         return None;
     }
-    let tiles = Slots {
-        words: p.table().words(),
-        count: n,
-    };
-    append(tiles, j, work, m);
+    append(Slots::from(p.table()), j, work, m);
     Some(r)
 }

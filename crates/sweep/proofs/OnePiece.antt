@@ -92,7 +92,7 @@ module _ {l : Layout} {work rules : List ℕ} {used bx by : ℕ} (P : PieceIn l 
       let g : near_area (width l.material) (height l.material) 0 bx by ≡ near_area (width l.waiting) (height l.waiting) 0 bx by = λ i. near_area (sym M.wide i) (sym M.tall i) 0 bx by in
       ap {B = Picture} (λ (b : Area). painted (picture_of l.waiting) b 0) (f ∙ g)
 
-  pub as_waiting : {r : Bool} {a : Area} {vs : List ℕ} → a ≡ near_area (width l.material) (height l.material) 0 bx by
+  pub as_waiting : {r : Option (Unit {0})} {a : Area} {vs : List ℕ} → a ≡ near_area (width l.material) (height l.material) 0 bx by
       → Remade l.waiting (painted (picture_of l.waiting) a 0) r vs → Remade l.waiting (piece_waiting l bx by) r vs
   as_waiting {r} {vs = vs} f W = subst (λ (q : Picture). Remade l.waiting q r vs) (waiting_after f) W
 
@@ -101,24 +101,24 @@ module _ {l : Layout} {work rules : List ℕ} {used bx by : ℕ} (P : PieceIn l 
   as_waiting_tiles c r f W = subst (λ (q : Picture). TilesAfter c l.waiting q r) (waiting_after f) W
 
   -- waiting would have too many tiles
-  pub piece_unwaited : {c : ℕ} → c ≡ room l → c < waiting_tiles l bx by → PieceTried l rules used bx by false l
+  pub piece_unwaited : {c : ℕ} → c ≡ room l → c < waiting_tiles l bx by → PieceTried l rules used bx by None l
   unfolding piece_fits
   piece_unwaited e u = record {
     fits = sym (no_second (leb (error_tiles l rules used bx by) (room l)) (leb (waiting_tiles l bx by) (room l)) (lt-leb (waiting_tiles l bx by) (room l) (omega arith)));
     leaves = refl;
   }
 
-  module _ {b : Bool} {es : List ℕ} (E : Remade l.errors (piece_errors l (rules_of rules used) (halo_of rules used) bx by) b es) where
+  module _ {b : Option (Unit {0})} {es : List ℕ} (E : Remade l.errors (piece_errors l (rules_of rules used) (halo_of rules used) bx by) b es) where
     -- have the errors room
-    errors_fit : b ≡ leb (error_tiles l rules used bx by) (room l)
+    errors_fit : is_some b ≡ leb (error_tiles l rules used bx by) (room l)
     errors_fit = E.fits ∙ ap (λ (n : ℕ). leb (error_tiles l rules used bx by) (room_in n)) P.fit.lengths.tables.errors
 
     -- their words, by whether they have
-    errors_words : {d : Bool} → b ≡ d → es ≡ cond d (table_like l.errors (piece_errors l (rules_of rules used) (halo_of rules used) bx by)) l.errors
+    errors_words : {d : Bool} → is_some b ≡ d → es ≡ cond d (table_like l.errors (piece_errors l (rules_of rules used) (halo_of rules used) bx by)) l.errors
     errors_words e = E.leaves ∙ ap (λ (z : Bool). cond z (table_like l.errors (piece_errors l (rules_of rules used) (halo_of rules used) bx by)) l.errors) e
 
     -- they have none
-    pub piece_unmarked : b ≡ false → PieceTried l rules used bx by false (lent l.material es l.waiting)
+    pub piece_unmarked : is_some b ≡ false → PieceTried l rules used bx by None (lent l.material es l.waiting)
     unfolding piece_fits
     piece_unmarked f =
         let a = errors_words f in
@@ -127,19 +127,19 @@ module _ {l : Layout} {work rules : List ℕ} {used bx by : ℕ} (P : PieceIn l 
           leaves = λ i. record { material = l.material; errors = a i; waiting = l.waiting };
         }
 
-    module _ {r : Bool} {qs : List ℕ} (W : Remade l.waiting (piece_waiting l bx by) r qs) where
-      waiting_fits : r ≡ leb (waiting_tiles l bx by) (room l)
+    module _ {r : Option (Unit {0})} {qs : List ℕ} (W : Remade l.waiting (piece_waiting l bx by) r qs) where
+      waiting_fits : is_some r ≡ leb (waiting_tiles l bx by) (room l)
       waiting_fits = W.fits ∙ ap (λ (n : ℕ). leb (waiting_tiles l bx by) (room_in n)) P.fit.lengths.tables.waiting
 
       -- the errors have room: it is for waiting to say; without room there the errors must have stayed
-      pub piece_tried : b ≡ true → (r ≡ false → es ≡ l.errors) → PieceTried l rules used bx by r (lent l.material es qs)
+      pub piece_tried : is_some b ≡ true → (is_some r ≡ false → es ≡ l.errors) → PieceTried l rules used bx by r (lent l.material es qs)
       unfolding piece_fits
       piece_tried t stay = record {
         fits = waiting_fits ∙ ap (λ (z : Bool). z && leb (waiting_tiles l bx by) (room l)) (sym t ∙ errors_fit);
-        leaves = (λ i. record { material = l.material; errors = words r refl i; waiting = W.leaves i }) ∙ both r;
+        leaves = (λ i. record { material = l.material; errors = words (is_some r) refl i; waiting = W.leaves i }) ∙ both (is_some r);
       }
         where
-          words : (d : Bool) → r ≡ d → es ≡ cond d (table_like l.errors (piece_errors l (rules_of rules used) (halo_of rules used) bx by)) l.errors
+          words : (d : Bool) → is_some r ≡ d → es ≡ cond d (table_like l.errors (piece_errors l (rules_of rules used) (halo_of rules used) bx by)) l.errors
           words true e = errors_words t
           words false e = stay e
 
@@ -149,7 +149,7 @@ module _ {l : Layout} {work rules : List ℕ} {used bx by : ℕ} (P : PieceIn l 
           both false = refl
 
       -- they were marked, and the tiles of waiting were counted first
-      pub piece_checked : {c : ℕ} (d : Option ℕ) → c ≡ room l → b ≡ true → TilesAfter c l.waiting (piece_waiting l bx by) d → is_some d ≡ true → PieceTried l rules used bx by r (lent l.material es qs)
+      pub piece_checked : {c : ℕ} (d : Option ℕ) → c ≡ room l → is_some b ≡ true → TilesAfter c l.waiting (piece_waiting l bx by) d → is_some d ≡ true → PieceTried l rules used bx by r (lent l.material es qs)
       piece_checked (Some d) e n T u = piece_tried n (λ f. tf (sym (waiting_fits ∙ le-leb (waiting_tiles l bx by) (room l) (omega (arith, T.number, T.room))) ∙ f))
       piece_checked None e n T u = tf (sym u)
 

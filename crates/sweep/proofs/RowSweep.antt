@@ -17,7 +17,8 @@ use Rattle.plane.proofs.FromTable.{tiles_agree}
 use Rattle.tables.specs.Like.{table_like}
 use Rattle.tables.specs.Tables.{Paintable}
 use Rattle.tables.proofs.Whole.{painted_types, table_length, table_size, table_words, made_shows}
-use Rattle.std.specs.Prelude.{Some}
+use Rattle.std.specs.Prelude.{Option, Some}
+use Rattle.std.specs.Option.{is_some}
 use Rattle.waits.specs.Pieces.{Lowest, block, blocks, lowest_block, piece_waits}
 use Rattle.piece.specs.Remark.{BlockIn, near_area}
 use Rattle.sweep.specs.Sweep.{swept_area}
@@ -41,7 +42,7 @@ painted_same p q a b k x y e f = λ i. cond (in_area (e i) x y) k (f i)
 
 -- a table remade is that of another table of its size, for a picture that agrees in the window and has room
 remade_as : {vs : List ℕ} (ws : List ℕ) {p q : Picture} → length vs ≡ length ws → width vs ≡ width ws → height vs ≡ height ws → kinds vs ≡ kinds ws
-    → ((x y : ℕ) → x < width ws → y < height ws → p x y ≡ q x y) → length (tiles (width ws) (height ws) q) ≤ room_in (length ws) → Remade vs p true (table_like ws q)
+    → ((x y : ℕ) → x < width ws → y < height ws → p x y ≡ q x y) → length (tiles (width ws) (height ws) q) ≤ room_in (length ws) → Remade vs p (Some (tt {0})) (table_like ws q)
 remade_as {vs} ws {p} {q} l w h k f u =
     let e : tiles (width vs) (height vs) p ≡ tiles (width ws) (height ws) q = (λ i. tiles (w i) (h i) p) ∙ tiles_agree (width ws) (height ws) p q f in
     record {
@@ -115,7 +116,7 @@ module _ {l : Layout} {work rules : List ℕ} {used bx by n : ℕ} (T : TurnIn l
         ∙ (lowest_same w h q (picture_of v) (λ x y u v. sym (swept_shows c x y u v)) ∙ sym (λ i. lowest_block (s.0 i) (s.1 i) (picture_of v)))
 
     -- and without it one column more is done
-    swept_on : (c : ℕ) (es : List ℕ) → Remade (table_like l.waiting (swept_waiting l c by)) (piece_waiting (swept_to l es c by) c by) true (table_like l.waiting (swept_waiting l (c + 1) by))
+    swept_on : (c : ℕ) (es : List ℕ) → Remade (table_like l.waiting (swept_waiting l c by)) (piece_waiting (swept_to l es c by) c by) (Some (tt {0})) (table_like l.waiting (swept_waiting l (c + 1) by))
     swept_on c es =
         let w = width l.waiting in
         let h = height l.waiting in
@@ -155,9 +156,9 @@ module _ {l : Layout} {work rules : List ℕ} {used bx by n : ℕ} (T : TurnIn l
         pub next_marks : {vs : List ℕ} → length vs ≡ length l.material → MarkIn l.material es vs rules used i by
         next_marks s = piece_marks next_piece s
 
-        module _ {b : Bool} {es' : List ℕ} (E : Remade es (errors_near l.material es rules used i by) b es') (some : done < n) where
+        module _ {b : Option (Unit {0})} {es' : List ℕ} (E : Remade es (errors_near l.material es rules used i by) b es') (some : done < n) where
           -- it has no room
-          pub row_full : b ≡ false → RowMarked l rules used by n done i true es'
+          pub row_full : is_some b ≡ false → RowMarked l rules used by n done i true es'
           row_full g = record {
             turned = subst (λ (z : ℕ). Turned l rules used n z true (swept_to l es' i by)) (omega arith)
                 (turned_join {m = 1} S.came (omega arith) (turn_full S.came.fit next_lowest (omega arith) (piece_unmarked next_piece E g) refl));
@@ -166,7 +167,7 @@ module _ {l : Layout} {work rules : List ℕ} {used bx by n : ℕ} (T : TurnIn l
           }
 
           -- it is done
-          pub row_more : b ≡ true → SoFar l rules used bx by n es' (done + 1) (i + 1)
+          pub row_more : is_some b ≡ true → SoFar l rules used bx by n es' (done + 1) (i + 1)
           row_more g =
               let J = turned_join {m = 1} {n = n} S.came (omega arith) (turn_done S.came.fit next_lowest (omega arith) (piece_tried next_piece E (swept_on i es) g (λ z. tf z)) refl) in
               record { came = J.came; most = J.most; to = omega arith; through = omega (arith, S.through); first = λ z. absurd (omega arith) }
@@ -186,12 +187,12 @@ module _ {l : Layout} {work rules : List ℕ} {used bx by n : ℕ} (T : TurnIn l
         sweep_paintable u e = waiting_area T.fit e (subst (λ (b : Area). AreaIn (width l.material) (height l.material) b) (sym f)
             (record { some_x = omega (arith, S.through, row_block.column); some_y = omega (arith, row_block.row); in_x = omega arith; in_y = omega arith }))
 
-        pub sweep_done : {r : Bool} {vs : List ℕ} → Remade l.waiting (painted (picture_of l.waiting) a 0) r vs → Turned l rules used n done full (lent l.material es vs)
+        pub sweep_done : {r : Option (Unit {0})} {vs : List ℕ} → Remade l.waiting (painted (picture_of l.waiting) a 0) r vs → Turned l rules used n done full (lent l.material es vs)
         sweep_done {r} {vs} W =
             let M = T.fit.tables.waiting in
             let q = painted (picture_of l.waiting) a 0 in
             let g : q ≡ swept_waiting l c by = ap {B = Picture} (λ (b : Area). painted (picture_of l.waiting) b 0) (f ∙ (λ i. swept_area (sym M.wide i) (sym M.tall i) c by)) in
             let X = subst (λ (z : Picture). Remade l.waiting z r vs) g W in
-            let t : r ≡ true = X.fits ∙ le-leb (length (tiles (width l.waiting) (height l.waiting) (swept_waiting l c by))) (room_in (length l.waiting)) (swept_room c) in
+            let t : is_some r ≡ true = X.fits ∙ le-leb (length (tiles (width l.waiting) (height l.waiting) (swept_waiting l c by))) (room_in (length l.waiting)) (swept_room c) in
             let v : vs ≡ table_like l.waiting (swept_waiting l c by) = X.leaves ∙ ap (λ (z : Bool). cond z (table_like l.waiting (swept_waiting l c by)) l.waiting) t in
             subst (λ (z : List ℕ). Turned l rules used n done full (lent l.material es z)) (sym v) S.turned

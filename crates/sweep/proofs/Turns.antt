@@ -10,6 +10,7 @@ use Rattle.plane.proofs.Basics.{tf}
 use Rattle.plane.proofs.FromTable.{table_plane}
 use Rattle.rules.specs.Words.{halo_of, rules_of}
 use Rattle.std.specs.Prelude.{Option, Some, None}
+use Rattle.std.specs.Option.{is_some}
 use Rattle.waits.specs.declared.block.Block.{Block}
 use Rattle.waits.specs.Pieces.{block}
 use Rattle.waits.proofs.Blocks.{lowest_block_lem}
@@ -56,12 +57,12 @@ module _ {l : Layout} {rules : List ℕ} {used : ℕ} (F : Fit l rules used) whe
     piece_step : (m : ℕ) (r : Bool) → r ≡ piece_fits l (rules_of rules used) (halo_of rules used) bx by → check_run (suc m) (rules_of rules used) (halo_of rules used) l ≡ turn (Some (block bx by)) r l (check_run m (rules_of rules used) (halo_of rules used) (checked_piece l (rules_of rules used) (halo_of rules used) bx by))
     piece_step m r f = first_step m (Some (block bx by)) e ∙ ap (λ (z : Bool). turn (Some (block bx by)) z l (check_run m (rules_of rules used) (halo_of rules used) (checked_piece l (rules_of rules used) (halo_of rules used) bx by))) (sym f)
 
-    module _ {n : ℕ} {r : Bool} {after : Layout} (some : 1 ≤ n) (T : PieceTried l rules used bx by r after) where
+    module _ {n : ℕ} {r : Option (Unit {0})} {after : Layout} (some : 1 ≤ n) (T : PieceTried l rules used bx by r after) where
       -- what it leaves
-      leaves_by : {d : Bool} → r ≡ d → after ≡ cond d (checked_piece l (rules_of rules used) (halo_of rules used) bx by) l
+      leaves_by : {d : Bool} → is_some r ≡ d → after ≡ cond d (checked_piece l (rules_of rules used) (halo_of rules used) bx by) l
       leaves_by t = T.leaves ∙ ap (λ (z : Bool). cond z (checked_piece l (rules_of rules used) (halo_of rules used) bx by) l) t
 
-      pub turn_done : r ≡ true → Turned l rules used n 1 false after
+      pub turn_done : is_some r ≡ true → Turned l rules used n 1 false after
       turn_done t = record {
         came = record {
           run = λ m. let q = check_run m (rules_of rules used) (halo_of rules used) (checked_piece l (rules_of rules used) (halo_of rules used) bx by) in
@@ -76,7 +77,7 @@ module _ {l : Layout} {rules : List ℕ} {used : ℕ} (F : Fit l rules used) whe
         stuck = λ f. tf (sym f);
       }
 
-      pub turn_full : r ≡ false → Turned l rules used n 0 true after
+      pub turn_full : is_some r ≡ false → Turned l rules used n 0 true after
       turn_full t = subst (λ (z : Layout). Turned l rules used n 0 true z) (sym (leaves_by t)) (record {
         came = came_none F;
         most = omega arith;

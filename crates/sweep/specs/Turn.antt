@@ -1,5 +1,6 @@
 -- A turn of a run: one piece, or a row of them; what its functions promise one another.
-use Rattle.std.specs.Prelude.{ℕ, suc, ◌+◌, ◌*◌, ◌≤◌, ◌<◌, Bool, true, false, cond, ◌≡◌, List, length, Some}
+use Rattle.std.specs.Prelude.{ℕ, suc, ◌+◌, ◌*◌, ◌≤◌, ◌<◌, Bool, true, false, cond, ◌≡◌, List, length, Option, Some}
+use Rattle.std.specs.Option.{is_some}
 use Rattle.plane.specs.Picture.{Picture}
 use Rattle.plane.specs.Words.{width, height, picture_of}
 use Rattle.tables.specs.Like.{table_like}
@@ -18,9 +19,9 @@ pub record PieceIn (l : Layout) (work rules : List ℕ) (used bx by : ℕ) : Typ
   pub row : 16 * by < height l.material
 
 -- a piece: has it room, and the layout afterwards
-pub record PieceTried (l : Layout) (rules : List ℕ) (used bx by : ℕ) (r : Bool) (after : Layout) : Type 0 where
-  pub fits : r ≡ piece_fits l (rules_of rules used) (halo_of rules used) bx by
-  pub leaves : after ≡ cond r (checked_piece l (rules_of rules used) (halo_of rules used) bx by) l
+pub record PieceTried (l : Layout) (rules : List ℕ) (used bx by : ℕ) (r : Option (Unit {0})) (after : Layout) : Type 0 where
+  pub fits : is_some r ≡ piece_fits l (rules_of rules used) (halo_of rules used) bx by
+  pub leaves : after ≡ cond (is_some r) (checked_piece l (rules_of rules used) (halo_of rules used) bx by) l
 
 -- ---- runs
 -- d pieces, and then a run

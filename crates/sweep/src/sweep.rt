@@ -18,14 +18,14 @@ use waits::block::Block;
 use waits::waits::row_of;
 
 // What a run or a turn of it came to: the pieces done, and whether it then met one without room.
-// No Result: the pieces done count in both cases alike, and a run adds them up over its turns.
+// No Result: the pieces done count in both cases alike, a run adds them up over its turns, and run_pieces makes the Result.
 #[derive(Clone, Copy, PartialEq, Eq)]
 pub struct Ran {
     pub done: usize,
     pub full: bool,
 }
 
-// What a row came to: the same, and the column before which all is done in it.
+// What a row came to: the same, and the column before which all is done in it. No Result, as Ran: the column too counts in both cases.
 #[derive(Clone, Copy, PartialEq, Eq)]
 pub struct Swept {
     pub done: usize,
@@ -34,7 +34,8 @@ pub struct Swept {
 }
 
 // Marks the errors of the waiting pieces of the lowest one's row, from that on, at most n, until the row ends or a piece has no room.
-// It takes the slices one by one and no Lent, since it only reads what waits.
+// It takes the slices one by one and no Lent, since it only reads what waits. TurnIn stands here, in sweep_row and in one_turn: it is said of
+// a layout, its rules and a piece together, so no one value carries it.
 fn mark_row(
     material: &[u16],
     errors: &mut [u16],
@@ -51,21 +52,27 @@ fn mark_row(
     let columns = row_of(waiting, usize::from(lowest.y));
     let mut done: usize = 0;
     let mut end = lowest.x;
-    let mut full = false;
     for x in lowest.x..material[1].div_ceil(16) {
         if done == n {
             break;
         }
         if columns[usize::from(x)] {
-            full = !remark(material, errors, work, rules, Block { x, y: lowest.y });
-            if full {
-                break;
+            if remark(material, errors, work, rules, Block { x, y: lowest.y }).is_none() {
+                return Swept {
+                    done,
+                    end,
+                    full: true,
+                };
             }
             done += 1;
         }
         end = x + 1;
     }
-    Swept { done, end, full }
+    Swept {
+        done,
+        end,
+        full: false,
+    }
 }
 
 // The squares of the first e pieces of row y.
@@ -83,10 +90,10 @@ fn row_area(w: u16, h: u16, e: u16, y: u16) -> Area
 }
 
 impl Lent<'_> {
-    // Checks the piece; false, with errors and waiting as they were, where one of them has no room for it. What waits is counted before
+    // Checks the piece; None, with errors and waiting as they were, where one of them has no room for it. What waits is counted before
     // the errors are marked.
     #[tactic(auto, using(crate::proofs::OnePiece::piece_unroomed))]
-    pub fn check_piece(&mut self, rules: RuleList<'_>, piece: Block) -> bool
+    pub fn check_piece(&mut self, rules: RuleList<'_>, piece: Block) -> Option<()>
         requires { PieceIn (layout_of self.old) self.old.work.now rules.words.now rules.used piece.x piece.y }
         ensures tried { PieceTried (layout_of self.old) rules.entry.words.now rules.entry.used piece.x piece.y result (layout_of self.new) }
         ensures kept { Kept self.old self.new }
@@ -96,10 +103,10 @@ impl Lent<'_> {
         let block = near_area(material[1], material[2], piece, 0);
         let waiting = &mut *self.waiting;
         if tiles_after(waiting, block, 0, self.work, room).is_none() {
-            return false;
+            return None;
         }
-        remark(material, self.errors, self.work, rules, piece)
-            && end_waiting(waiting, block, self.work, room)
+        remark(material, self.errors, self.work, rules, piece)?;
+        end_waiting(waiting, block, self.work, room)
     }
 
     // Checks waiting pieces of the lowest one's row, from that on, at most n: marks their errors, and then clears them in waiting all at once.
@@ -134,16 +141,15 @@ impl Lent<'_> {
         if usize::from(self.waiting[0]) + 32 <= room_in(self.material.len()) {
             return self.sweep_row(rules, lowest, n);
         }
-        if self.check_piece(rules, lowest) {
-            Ran {
+        match self.check_piece(rules, lowest) {
+            Some(()) => Ran {
                 done: 1,
                 full: false,
-            }
-        } else {
-            Ran {
+            },
+            None => Ran {
                 done: 0,
                 full: true,
-            }
+            },
         }
     }
 }

@@ -1,5 +1,7 @@
 // Whole tables: of space, and of the picture after, made at the front of the working room and taken over. For callers that have tested what
-// they are lent.
+// they are lent. The table or working slice and its room stand apart: a struct that held the lent `&mut` slice would have to say in each
+// contract that it still holds that slice. The room is counted once, by the caller. Paintable and Small are facts of a table, a room and an area
+// together, asked of each table that a call is lent.
 ghost use Rattle.std.specs.Prelude.{◌≡◌, ◌+◌, ◌*◌, ◌<◌, ◌≤◌, length, replicate};
 ghost use Rattle.plane.specs.Picture.{table, space, painted, stamped};
 ghost use Rattle.plane.specs.Plane.{Plane};
@@ -123,7 +125,7 @@ pub fn tiles_after(t: &[u16], a: Area, kind: u16, work: &mut [u16], room: usize)
     rebuild(&Painting::of(&table, &b), work, room)
 }
 
-// The same with an area of at most 48 by 48 squares set to its bits.
+// Paints a table in place: an area of at most 48 by 48 squares is set to its bits.
 pub fn stamp_table(
     t: &mut [u16],
     a: Area,

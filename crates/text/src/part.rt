@@ -3,6 +3,7 @@ ghost use Rattle.std.specs.Prelude.{◌≡◌, length};
 ghost use Rattle.text.specs.Part.{part_end, unblanked};
 
 // Where the part ends that starts at `at`: at the first blank from there on, or at the line's end.
+// As past_blanks (script.rt) with the other test: each is one chain, so nothing is left to share.
 pub fn part_end(text: &[u8], at: usize) -> usize
     ensures { result ≡ part_end text.now at }
 {

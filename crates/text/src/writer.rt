@@ -1,4 +1,5 @@
-// Bytes written into a lent slice, one behind the other: single bytes, fixed words, and decimal numbers.
+// Bytes written into a lent slice, one behind the other: single bytes, fixed words, and decimal numbers. Each call asks for Room for as many bytes
+// as it puts, so that is no fact of the Writer.
 ghost use Rattle.std.specs.Prelude.{[], ◌∷◌, ◌≡◌, ◌+◌, ◌≤◌, length};
 ghost use Rattle.text.specs.Decimal.{decimal_in, decimal};
 ghost use Rattle.text.specs.Put.{Puts, Room};

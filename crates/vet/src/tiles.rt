@@ -136,6 +136,7 @@ impl<'a> Listed<'a> {
         }
     }
 
+    // Boxes is asked here and of stitches, since it is what the test before has found; from then on Sewn holds it.
     // Do the four stitches of tile i name tiles that touch it? In a plane they meet its sides, so three comparisons do where a square takes four.
     pub fn stitched(self, i: u16) -> bool
         requires { (i < count self.words.now) × (Boxes self.words.now) }

@@ -59,7 +59,7 @@ pub fn vet(t: &[u16]) -> Result<(), Refusal>
     Ok(())
 }
 
-// The same, and is the window w by h?
+// The same, and is the window w by h? A public call for whoever needs no Table; the crates above take tested_size.
 pub fn vet_size(t: &[u16], w: u16, h: u16) -> Result<(), Refusal>
     ensures { SizedRight t.now w h (number result) }
 {

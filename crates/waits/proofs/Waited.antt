@@ -15,11 +15,11 @@ use Rattle.plane.specs.Plane.{Plane}
 use Rattle.plane.proofs.Basics.{lt_or_ge, eq_or_ne, is_false}
 use Rattle.plane.proofs.Counting.{sum_eq}
 use Rattle.plane.proofs.ToTable.{shown}
-use Rattle.std.specs.Prelude.{Some, None, count_by, take}
+use Rattle.std.specs.Prelude.{Option, Some, None, count_by, take}
 use Rattle.std.proofs.lemmas.List.{take_more}
 use Rattle.std.proofs.lemmas.List.Sums.{sum_by_push}
 use Rattle.waits.specs.Pieces.{block, blocks, waits_at, pieces, piece_waits, waiting_pieces, lowest_block, Lowest}
-use Rattle.waits.specs.Waits.{WaitingRow, Crosses, key_of, Least, LeastKey, MarksTile, Columns}
+use Rattle.waits.specs.Waits.{WaitingRow, Crosses, key_of, Least, LeastKey, LeastOf, MarksTile, Columns}
 use Rattle.waits.proofs.Blocks.{some_in_has, some_in_at, waits_at_lem, waits_in, waits_inside, block_lowest}
 
 module _ (ws : List ℕ) (P : Plane ws) where
@@ -91,10 +91,10 @@ module _ (ws : List ℕ) (P : Plane ws) where
       let c = j.2 in
       (j.0, j.1, c.waits, omega (arith, c.from_bottom), omega (arith, c.from_left))
 
-  lowest_at : (m : ℕ) → Least ws (count ws) m → m < 65536 → Lowest (width ws) (height ws) (picture_of ws) (m % 256) (m / 256)
+  lowest_at : (m : ℕ) → Least ws (count ws) m → Lowest (width ws) (height ws) (picture_of ws) (m % 256) (m / 256)
   unfolding waiting
-  lowest_at m l small =
-      let f = l.found small in
+  lowest_at m l =
+      let f = l.found in
       let c = column_small f.0 f.1 in
       let e₁ : m % 256 ≡ word ws f.0 0 / 16 = omega (arith, f.3) in
       let e₂ : m / 256 ≡ word ws f.0 1 / 16 = omega (arith, f.3) in
@@ -113,23 +113,16 @@ module _ (ws : List ℕ) (P : Plane ws) where
             (lt_or_ge (m / 256) cy);
       }
 
-  lowest_none : (m : ℕ) → Least ws (count ws) m → 65536 ≤ m → (bx by : ℕ) → piece_waits (width ws) (height ws) (picture_of ws) bx by ≡ false
+  lowest_none : LeastKey ws None → (bx by : ℕ) → piece_waits (width ws) (height ws) (picture_of ws) bx by ≡ false
   unfolding waiting
-  lowest_none m l big bx by = is_false (waiting bx by) (λ e.
-      let g = corner_below bx by e in
-      let b = l.each g.0 g.1 g.2 in
-      let d = column_small g.0 g.1 in
-      let k = P.boxes.box g.0 g.1 in
-      let k₂ : word ws g.0 1 < word ws g.0 3 = k.tall in
-      let k₄ : word ws g.0 3 ≤ height ws = k.under in
-      omega (arith, P.header.sizes.tall_most))
+  lowest_none l bx by = is_false (waiting bx by) (λ e. let g = corner_below bx by e in g.2 (l g.0 g.1))
 
   -- what the least key says
   pub least_block : (m : ℕ) → LeastKey ws (Some m) → Some (block (m % 256) (m / 256)) ≡ lowest_block (width ws) (height ws) (picture_of ws)
-  least_block m l = block_lowest (width ws) (height ws) (picture_of ws) (Some (block (m % 256) (m / 256))) (lowest_at m l.1 l.0)
+  least_block m l = block_lowest (width ws) (height ws) (picture_of ws) (Some (block (m % 256) (m / 256))) (lowest_at m l)
 
   pub least_nothing : LeastKey ws None → None ≡ lowest_block (width ws) (height ws) (picture_of ws)
-  least_nothing l = block_lowest (width ws) (height ws) (picture_of ws) None (lowest_none 65536 l (omega arith))
+  least_nothing l = block_lowest (width ws) (height ws) (picture_of ws) None (lowest_none l)
 
   -- ---- a row
   -- with all tiles marked, the columns of a row of pieces are those that wait
@@ -182,28 +175,41 @@ unfolding waiting_pieces pieces row_waiting
 rows_all w h p = refl
 
 -- ---- the least key
-pub least_none : (ws : List ℕ) → Least ws 0 65536
-least_none ws = record { most = omega arith; each = λ j l n. absurd (omega arith); found = λ l. absurd (omega arith) }
+pub least_none : (ws : List ℕ) → LeastOf ws 0 None
+least_none ws = λ j l. absurd (omega arith)
 
 -- a tile more, which does not wait
-pub least_idle : {ws : List ℕ} {i m : ℕ} {t : Tile} → t ≡ tile_of ws i → Least ws i m → t.kind ≡ 0 → Least ws (i + 1) m
-least_idle {ws} {i} {m} {t} s l k = let z = (rw s at k) in record {
-  most = l.most;
+pub least_idle : (ws : List ℕ) (i : ℕ) {t : Tile} (r : Option ℕ) → t ≡ tile_of ws i → LeastOf ws i r → t.kind ≡ 0 → LeastOf ws (i + 1) r
+least_idle ws i {t} None s l k = let z = (rw s at k) in λ j u. ⊎_elim (λ (v : j < i). l j v) (λ (v : i ≤ j). let e : j ≡ i = omega arith in rw e z) (lt_or_ge j i)
+least_idle ws i {t} (Some m) s l k = let z = (rw s at k) in record {
+  small = l.small;
   each = λ j u n. ⊎_elim (λ (v : j < i). l.each j v n) (λ (v : i ≤ j). let e : j ≡ i = omega arith in absurd (n (rw e z))) (lt_or_ge j i);
-  found = λ u. let f = l.found u in (f.0, omega (arith, f.1), f.2, f.3);
+  found = let f = l.found in (f.0, omega (arith, f.1), f.2, f.3);
 }
 
--- or waits
-pub least_more : {ws : List ℕ} {i m r : ℕ} {t : Tile} → t ≡ tile_of ws i → Least ws i m → (t.kind ≡ 0 → ⊥) → r ≡ key_of t → Least ws (i + 1) (min m r)
-least_more {ws} {i} {m} {r} {t} s l k f = let n = (rw s at k) in let e = (rw s at f) in record {
-  most = omega (arith, l.most);
+-- a tile of a plane begins left of 4096 and below it
+key_small : {ws : List ℕ} {i : ℕ} → Plane ws → i < count ws → key_of (tile_of ws i) < 65536
+key_small {ws} {i} P l = let k = P.boxes.box i l in omega (arith, k.wide, k.inside, k.tall, k.under, P.header.sizes.wide_most, P.header.sizes.tall_most)
+
+-- or waits, the first that does
+pub least_first : {ws : List ℕ} {i r : ℕ} {t : Tile} → Plane ws → i < count ws → t ≡ tile_of ws i → LeastOf ws i None → (t.kind ≡ 0 → ⊥) → r ≡ key_of t → Least ws (i + 1) r
+least_first {ws} {i} {r} {t} P b s l n e = let e : r ≡ key_of (tile_of ws i) = rw s at e in let n : word ws i 4 ≡ 0 → ⊥ = rw s at n in record {
+  small = rw e (key_small P b);
+  each = λ j u k. ⊎_elim (λ (v : j < i). absurd (k (l j v))) (λ (v : i ≤ j). let q : j ≡ i = omega arith in rw q (omega (arith, e))) (lt_or_ge j i);
+  found = (i, omega arith, n, e);
+}
+
+-- or one more
+pub least_more : {ws : List ℕ} {i m r : ℕ} {t : Tile} → Plane ws → i < count ws → t ≡ tile_of ws i → LeastOf ws i (Some m) → (t.kind ≡ 0 → ⊥) → r ≡ key_of t → Least ws (i + 1) (min r m)
+least_more {ws} {i} {m} {r} {t} P b s l n e = let e : r ≡ key_of (tile_of ws i) = rw s at e in let n : word ws i 4 ≡ 0 → ⊥ = rw s at n in record {
+  small = omega (arith, l.small);
   each = λ j u k. ⊎_elim
       (λ (v : j < i). let b = l.each j v k in omega arith)
       (λ (v : i ≤ j). let q : j ≡ i = omega arith in rw q (omega (arith, e)))
       (lt_or_ge j i);
-  found = λ u. ⊎_elim
-      (λ (a : m < r). let f = l.found (omega arith) in (f.0, omega (arith, f.1), f.2, (let q : min m r ≡ m = omega arith in q ∙ f.3)))
-      (λ (a : r ≤ m). let q : min m r ≡ r = omega arith in (i, omega arith, n, q ∙ e))
+  found = ⊎_elim
+      (λ (a : m < r). let f = l.found in (f.0, omega (arith, f.1), f.2, (let q : min r m ≡ m = omega arith in q ∙ f.3)))
+      (λ (a : r ≤ m). let q : min r m ≡ r = omega arith in (i, omega arith, n, q ∙ e))
       (lt_or_ge m r);
 }
 

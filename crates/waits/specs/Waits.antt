@@ -17,16 +17,20 @@ pub record Crosses (t : Tile) (bx by : ℕ) : Type 0 where
 abbrev pub key_of : Tile → ℕ
 key_of t = 256 * (t.bottom / 16) + t.left / 16
 
--- r is the least such number of the waiting tiles among the first n, 65536 where none waits
+-- r is the least such number of the waiting tiles among the first n
 pub record Least (ws : List ℕ) (n r : ℕ) : Type 0 where
-  pub most : r ≤ 65536
+  pub small : r < 65536
   pub each : (j : ℕ) → j < n → (word ws j 4 ≡ 0 → ⊥) → r ≤ key_of (tile_of ws j)
-  pub found : r < 65536 → (j : ℕ) × (j < n) × (word ws j 4 ≡ 0 → ⊥) × (r ≡ key_of (tile_of ws j))
+  pub found : (j : ℕ) × (j < n) × (word ws j 4 ≡ 0 → ⊥) × (r ≡ key_of (tile_of ws j))
+
+-- the same, or none where none of them waits
+abbrev pub LeastOf : List ℕ → ℕ → Option ℕ → Type 0
+LeastOf ws n (Some r) = Least ws n r
+LeastOf ws n None = (j : ℕ) → j < n → word ws j 4 ≡ 0
 
 -- the least of all tiles, none where none waits
 abbrev pub LeastKey : List ℕ → Option ℕ → Type 0
-LeastKey ws (Some r) = (r < 65536) × Least ws (count ws) r
-LeastKey ws None = Least ws (count ws) 65536
+LeastKey ws r = LeastOf ws (count ws) r
 
 -- the columns of a row of pieces, with a mark at each that the tile crosses
 pub record MarksTile (t : Tile) (by : ℕ) (m m' : List Bool) : Type 0 where

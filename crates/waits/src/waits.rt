@@ -1,6 +1,6 @@
 // The pieces that wait: the lowest, those of a row, and how many. A piece waits exactly if a waiting tile crosses it.
-ghost use Rattle.std.specs.Prelude.{◌≡◌, ◌+◌, ◌*◌, ◌≤◌, ◌<◌, length, count_by};
-ghost use Rattle.plane.specs.Words.{count, width, height, picture_of};
+ghost use Rattle.std.specs.Prelude.{◌≡◌, ◌≤◌, ◌<◌, length, count_by};
+ghost use Rattle.plane.specs.Words.{width, height, picture_of};
 ghost use Rattle.plane.specs.Plane.{Plane, Boxed};
 ghost use Rattle.waits.specs.Pieces.{lowest_block, waiting_pieces};
 ghost use Rattle.waits.specs.Waits.{key_of, LeastKey, MarksTile, WaitingRow};
@@ -20,18 +20,23 @@ fn key_of(a: Tile) -> usize
 fn least_key(t: &Table<'_>) -> Option<usize>
     ensures { LeastKey t.now result }
 {
-    let mut least: usize = 65536;
+    let mut least = None;
     for i in 0..t.count() {
         let a = t.tile(i);
         if a.kind != 0 {
-            least = least.min(key_of(a));
+            let key = key_of(a);
+            least = Some(match least {
+                Some(k) => key.min(k),
+                None => key,
+            });
         }
     }
-    if least < 65536 { Some(least) } else { None }
+    least
 }
 
 // The lowest waiting piece, by row and then column.
-// This, row_of and waiting_pieces take a plane's words and no Table, since docs/STATEMENTS.md promises them of any tested table.
+// This, row_of and waiting_pieces take words and no Table, since docs/STATEMENTS.md names them with that: a call that a page names keeps
+// what it takes.
 pub fn lowest_waiting(t: &[u16]) -> Option<Block>
     requires { Plane t.now }
     ensures { result ≡ lowest_block (width t.now) (height t.now) (picture_of t.now) }

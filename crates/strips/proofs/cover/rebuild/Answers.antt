@@ -10,4 +10,4 @@ pub returns-then-room-r : goal.returns-then-room-r
 returns-then-room-r c = built_over c.count.ensures.given c.low_tiles-low.ensures c.keep-k.ensures c.in_ok-m.ensures (c.from-n.ensures ∙ c.count.ensures.value) c.from-j.ensures c.if-room-r.true
 
 pub returns : goal.returns
-returns c = built_all c.count.ensures.given c.low_tiles-low.ensures c.keep-k.ensures c.in_ok-m.ensures (c.from-n.ensures ∙ c.count.ensures.value) c.from-j.ensures c.if-room-r.false (rw (c.words.ensures.value, c.table.ensures) at c.append.ensures)
+returns c = built_all c.count.ensures.given c.low_tiles-low.ensures c.keep-k.ensures c.in_ok-m.ensures (c.from-n.ensures ∙ c.count.ensures.value) c.from-j.ensures c.if-room-r.false (rw (c.from.ensures.0, c.from.ensures.1, c.table.ensures, ← c.count.ensures.value, ← c.from-n.ensures) at c.append.ensures)
