@@ -92,13 +92,13 @@ paint_tests d a k = (5, ltb k (kinds d.material)) ∷ (6, in_window (model_of d)
 abbrev after_paint : Inside → Area → ℕ → Model
 after_paint d a k = record { ready = d.ready; painted = true; layout = painted_layout (layout_of d) a k; rules = rules_of d.rules d.used }
 
-abbrev pub painted_desk : Inside → Layout → List ℕ → Inside
-painted_desk d l work = record d { material = l.material; errors = l.errors; waiting = l.waiting; work = work; painted = true }
+abbrev pub painted_desk : Inside → Layout → List ℕ → Bool → Inside
+painted_desk d l work p = record d { material = l.material; errors = l.errors; waiting = l.waiting; work = work; painted = p }
 
 module _ (d : Inside) (K : Kept d) (k : ℕ) (a : Area) {l : Layout} {work : List ℕ} (W : length work ≡ length d.work) where
-  -- the desk is kept
-  pub paint_kept : Painted (layout_of d) d.work a k 0 l work → Tables l → Kept (painted_desk d l work)
-  paint_kept P T = record {
+  -- the desk is kept, whatever it notes of the paint
+  pub paint_kept : (p : Bool) → Painted (layout_of d) d.work a k 0 l work → Tables l → Kept (painted_desk d l work p)
+  paint_kept p P T = record {
     tables = T;
     working = W ∙ K.working;
     list = K.list;
@@ -128,7 +128,7 @@ module _ (d : Inside) (K : Kept d) (k : ℕ) (a : Area) {l : Layout} {work : Lis
         let S = tables_stay d {work = work} K (P.outcome.leaves ∙ sym (left_as_is n (painted_layout (layout_of d) a k) (layout_of d) u)) W in
         ap (λ (m : Model). (m, reply.No n line)) S.1 ∙ said_no line (after_paint d a k) (model_of d) u (paint_number P)
 
-    pub paint_ok : Painted (layout_of d) d.work a k 0 l work → (model_of (painted_desk d l work), reply.Ok) ≡ painted_by (model_of d) line a k
+    pub paint_ok : Painted (layout_of d) d.work a k 0 l work → (model_of (painted_desk d l work true), reply.Ok) ≡ painted_by (model_of d) line a k
     unfolding painted_by
     paint_ok P =
         ap (λ (x : Layout). (record { ready = d.ready; painted = true; layout = x; rules = rules_of d.rules d.used }, reply.Ok)) P.outcome.leaves

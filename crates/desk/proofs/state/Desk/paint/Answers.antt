@@ -14,7 +14,7 @@ returns-in_err-paint c = λ r line.
 pub invariant_of-self-2 : goal.invariant_of-self-2
 invariant_of-self-2 c =
     let K = c.self.invariant in
-    paint_kept c.self.inside K c.args.kind c.args.a c.paint.auto.work c.in_ok-paint.ensures
+    paint_kept c.self.inside K c.args.kind c.args.a c.paint.auto.work _ c.in_ok-paint.ensures
     (record { material = c.paint.auto.material ∙ K.tables.material; errors = K.tables.errors; waiting = c.paint.auto.waiting ∙ K.tables.waiting })
 
 pub returns : goal.returns
