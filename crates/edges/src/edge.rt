@@ -94,6 +94,7 @@ impl<'a> Picture<'a> {
     }
 
     // Marks what the rule's edge at a crossing forbids, if there is one.
+    #[inline(always)]
     pub fn mark_edge(&self, marks: &mut [u8; 6724], r: Rule, c: Crossing)
         requires { r.ce ≤ 16 }
         ensures { Marked (hit self.now r c.turn c.at) marks.old marks.new }

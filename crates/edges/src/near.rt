@@ -1,5 +1,5 @@
 // Marks from the edges of a local picture, each found once: the rules of its pair of types, in the directions that they have.
-ghost use Rattle.std.specs.Prelude.{true, ◌≡◌, ◌+◌, ◌*◌, ◌≤◌, ◌<◌};
+ghost use Rattle.std.specs.Prelude.{true, ◌≡◌, ◌+◌, ◌*◌, ◌≤◌, ◌<◌, length};
 ghost use Rattle.rules.specs.Words.{rule_at};
 ghost use Rattle.edges.specs.Edge.{Marked, Local};
 ghost use Rattle.edges.specs.Near.{Ruled, Between, faces, hit_from, across, across_all, edges_at, edges_to, edges_over, Still, sweeps};
@@ -11,11 +11,16 @@ use rules::list::RuleList;
 use rules::rule::Rule;
 use std::marker::Model;
 
-// Does the rule go between types a and b: from b to a, or back if it is fourway?
-fn faces(r: Rule, a: u16, b: u16) -> bool
-    ensures { result ≡ faces a b r }
+// Does rule i go between types a and b: from b to a, or back if it is fourway? Only the words that tell are looked at: a cell may hold many
+// rules that go another way.
+#[tactic(auto, unfolding(rules::specs::Words::rule_at))]
+fn faces(rules: RuleList<'_>, i: usize, a: u16, b: u16) -> bool
+    requires { 8 * i + 8 ≤ length rules.words.now }
+    ensures { result ≡ faces a b (rule_at rules.entry.words.now i) }
 {
-    r.type1 == b && r.type2 == a || r.type1 == a && r.type2 == b && r.fourway != 0
+    let first = rules.words[8 * i];
+    let second = rules.words[8 * i + 1];
+    first == b && second == a || first == a && second == b && rules.words[8 * i + 6] != 0
 }
 
 // A local picture and the rules that are looked for in it, chained by the cells of their types. A contract sees a Marker as the picture's types and the list.
@@ -41,6 +46,7 @@ impl<'a> Model for Marker<'a> {
 
 impl<'a> Marker<'a> {
     // Marks what the rule forbids from the edge between a square and the one before it, crossed in one direction.
+    #[inline(always)]
     fn mark_from(&self, marks: &mut [u8; 6724], r: Rule, s: Side)
         requires { r.ce ≤ 16 }
         ensures { Marked (hit_from self.now.kinds true s.turn s.at r) marks.old marks.new }
@@ -53,6 +59,7 @@ impl<'a> Marker<'a> {
     }
 
     // The same, crossed both ways, and along both ways; a rule that is not fourway has the one direction only.
+    #[inline(always)]
     fn mark_across(&self, marks: &mut [u8; 6724], r: Rule, s: Side)
         requires { r.ce ≤ 16 }
         ensures { Marked (across self.now.kinds s.turn s.at r) marks.old marks.new }
@@ -66,18 +73,19 @@ impl<'a> Marker<'a> {
     }
 
     // The same for rule i, past a rule that does not go between the types at the edge.
+    #[inline(always)]
     fn mark_nth(&self, marks: &mut [u8; 6724], i: usize, s: Side, a: u16, b: u16)
         requires between { Between self.now.kinds s.turn s.at a b }
         requires i_in_bounds { i < self.now.used }
         ensures { Marked (across self.now.kinds s.turn s.at (rule_at self.now.words i)) marks.old marks.new }
     {
-        let r = self.rules.rule(i);
-        if faces(r, a, b) {
-            self.mark_across(marks, r, s);
+        if faces(self.rules, i, a, b) {
+            self.mark_across(marks, self.rules.rule(i), s);
         }
     }
 
     // The same for the used rules: those of the pair's cell, one after the other.
+    #[inline(always)]
     fn mark_pair(&self, marks: &mut [u8; 6724], s: Side, a: u16, b: u16)
         requires { Between self.now.kinds s.turn s.at a b }
         ensures { Marked (across_all self.now.kinds self.now.words self.now.used s.turn s.at) marks.old marks.new }
@@ -91,6 +99,7 @@ impl<'a> Marker<'a> {
     }
 
     // The same, past a square whose neighbour has its type.
+    #[inline(always)]
     fn mark_side(&self, marks: &mut [u8; 6724], s: Side)
         requires { s.turn.wm ≡ 0 }
         ensures { Marked (across_all self.now.kinds self.now.words self.now.used s.turn s.at) marks.old marks.new }
@@ -102,27 +111,37 @@ impl<'a> Marker<'a> {
         }
     }
 
-    // From the edges left of `at` and below it, past a square of the type of both neighbours.
+    // From the edges left of `at` and below it. A function of its own, with all that an edge leads to in it twice, a direction at a time, so
+    // that the steps of each are known there, and the look for edges stays short.
+    #[inline(never)]
+    fn mark_both(&self, marks: &mut [u8; 6724], at: usize)
+        requires { (82 ≤ at) × (at < 6724) }
+        ensures { Marked (edges_at self.now.kinds self.now.words self.now.used at) marks.old marks.new }
+    {
+        self.mark_side(
+            marks,
+            Side {
+                turn: Turn::RIGHT_UP,
+                at,
+            },
+        );
+        self.mark_side(
+            marks,
+            Side {
+                turn: Turn::UP_LEFT,
+                at,
+            },
+        );
+    }
+
+    // The same, past a square of the type of both neighbours.
     fn mark_at(&self, marks: &mut [u8; 6724], at: usize)
         requires { (82 ≤ at) × (at < 6724) }
         ensures { Marked (edges_at self.now.kinds self.now.words self.now.used at) marks.old marks.new }
     {
         let kind = self.picture.kind(at);
         if self.picture.kind(at - 1) != kind || self.picture.kind(at - 82) != kind {
-            self.mark_side(
-                marks,
-                Side {
-                    turn: Turn::RIGHT_UP,
-                    at,
-                },
-            );
-            self.mark_side(
-                marks,
-                Side {
-                    turn: Turn::UP_LEFT,
-                    at,
-                },
-            );
+            self.mark_both(marks, at);
         }
     }
 
