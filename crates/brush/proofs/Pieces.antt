@@ -14,21 +14,18 @@ use Rattle.plane.specs.Strips.{Strip}
 use Rattle.plane.specs.Words.{tile_of}
 use Rattle.brush.specs.declared.brush.Brush.{Brush}
 use Rattle.brush.specs.declared.brush.Ink.TheVariants.{Flat as OneType, Bits}
-use Rattle.brush.specs.Brush.{BrushIn, Canvas, Clipped, Flat, Given, InArea, InkTile, SameBits, after, goal_of, ink_at, inked, tall, wide}
+use Rattle.brush.specs.Brush.{BrushIn, Canvas, Clipped, Flat, Given, InArea, InkTile, SameBits, after, brush_tile, goal_of, ink_at, inked, tall, wide}
 use Rattle.plane.proofs.Basics.{bool_cases}
 use Rattle.plane.proofs.Index.{holds_true, true_holds}
 
 -- ---- the squares of an area
-abbrev box_of : Area → Tile
-box_of a = record { left = a.x1; bottom = a.y1; right = a.x2; top = a.y2; kind = 0 }
-
 pub in_true : (a : Area) (x y : ℕ) → InArea a x y → in_area a x y ≡ true
 unfolding in_area holds
-in_true a x y h = true_holds (box_of a) x y h
+in_true a x y h = true_holds (brush_tile a 0) x y h
 
 pub true_in : (a : Area) (x y : ℕ) → in_area a x y ≡ true → InArea a x y
 unfolding in_area holds
-true_in a x y e = holds_true (box_of a) x y e
+true_in a x y e = holds_true (brush_tile a 0) x y e
 
 -- ---- the picture after
 pub after_in : (p : Picture) (b : Brush) (x y : ℕ) → InArea b.area x y → after p b x y ≡ inked b x y
@@ -40,8 +37,7 @@ unfolding after
 after_out p b x y h = ⊎_elim (λ e. absurd (h (true_in b.area x y e))) (λ e. rw e) (bool_cases (in_area b.area x y))
 
 -- ---- the ink of the area
-pub ink_flat : {b : Brush} {x y k : ℕ} → b.ink ≡ OneType k → InArea b.area x y
-    → InkTile b x y (record { left = b.area.x1; bottom = b.area.y1; right = b.area.x2; top = b.area.y2; kind = k })
+pub ink_flat : {b : Brush} {x y k : ℕ} → b.ink ≡ OneType k → InArea b.area x y → InkTile b x y (brush_tile b.area k)
 unfolding ink_at
 ink_flat e h = record { here = omega (arith, h); inside = λ i z v. omega (arith, v); each = λ i z v. rw e }
 

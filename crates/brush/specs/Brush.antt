@@ -18,9 +18,13 @@ pub record Small (a : Area) : Type 0 where
   pub columns : a.x2 ≤ a.x1 + 48
   pub rows : a.y2 ≤ a.y1 + 48
 
+-- all of an area, as a tile of one type
+abbrev pub brush_tile : Area → ℕ → Tile
+brush_tile a k = record { left = a.x1; bottom = a.y1; right = a.x2; top = a.y2; kind = k }
+
 -- (x,y) is a square of the area
 abbrev pub InArea : Area → ℕ → ℕ → Type 0
-InArea a x y = Holds (record { left = a.x1; bottom = a.y1; right = a.x2; top = a.y2; kind = 0 }) x y
+InArea a x y = Holds (brush_tile a 0) x y
 
 -- an ink of bits sets a small area
 abbrev pub SmallInk : Ink → Area → Type 0

@@ -3,7 +3,7 @@ ghost use Rattle.std.specs.Prelude.{◌<◌, ◌≤◌, ◌≡◌};
 ghost use Rattle.plane.specs.Picture.{bit_of};
 ghost use Rattle.plane.specs.Strips.{Holds};
 ghost use Rattle.plane.specs.Words.{Says};
-ghost use Rattle.brush.specs.Brush.{BrushIn, InArea, KindsBelow, SmallBits, OtherBits, SameBits, InkTile, Clipped};
+ghost use Rattle.brush.specs.Brush.{brush_tile, BrushIn, InArea, KindsBelow, SmallBits, OtherBits, SameBits, InkTile, Clipped};
 
 use plane::tile::{Area, Tile};
 
@@ -19,6 +19,19 @@ pub enum Ink {
 pub struct Brush {
     pub area: Area,
     pub ink: Ink,
+}
+
+// All of an area, as a tile of one type.
+pub fn brush_tile(a: Area, kind: u16) -> Tile
+    ensures { result ≡ brush_tile a kind }
+{
+    Tile {
+        left: a.x1,
+        bottom: a.y1,
+        right: a.x2,
+        top: a.y2,
+        kind,
+    }
 }
 
 // Bit i of a word.
@@ -82,13 +95,7 @@ impl Brush {
     {
         let a = self.area;
         match &self.ink {
-            Ink::Flat(kind) => Tile {
-                left: a.x1,
-                bottom: a.y1,
-                right: a.x2,
-                top: a.y2,
-                kind: *kind,
-            },
+            Ink::Flat(kind) => brush_tile(a, *kind),
             Ink::Bits(rows) => {
                 let word = rows[usize::from(y - a.y1)];
                 let (left, right) = same_bits(word, x - a.x1, a.x2 - a.x1);

@@ -1,13 +1,14 @@
--- The place of a tile among the first n, by halves; a tile put there; and what is known of a square by the tile under it.
+-- The place of a tile among the first n, by halves; a tile put there; what is known of a square by the tile under it; and the answer of a test.
 use Prim.Native.Nat.{ℕ, ◌+◌, ◌-◌, ◌≤◌, ◌<◌}
 use native.Mathlib.Omega.{arith}
+use mathlib.Core.Bool.{Bool, false}
 use mathlib.Core.Path.{◌≡◌, refl, sym, ◌∙◌, subst}
 use mathlib.Core.Logic.{◌⊎◌, inl, inr, ⊎_elim}
 use mathlib.Core.List.{List}
 use Rattle.std.specs.Prelude.{Option, Some, None}
 use Rattle.plane.specs.declared.tile.Tile.{Tile}
 use Rattle.plane.specs.Strips.{Holds, Precedes}
-use Rattle.plane.specs.Words.{tile_of}
+use Rattle.plane.specs.Words.{Says, tile_of}
 use Rattle.slots.specs.Slots.{Fresh, Holder, InOrderTo, Past, PlaceOf, PutTile, ShiftedUp, Sorted, Sought, Under, WithTile}
 use Rattle.plane.proofs.Basics.{lt_or_ge}
 use Rattle.plane.proofs.Index.{precedes_trans}
@@ -112,3 +113,7 @@ module _ {ws : List ℕ} {n p j : ℕ} (x y : ℕ) {s : Tile} (S : Sorted ws n) 
           (λ (a : (tile_of ws m).bottom < y). let q = S.one m k x (y - 1) (omega (arith, P.most)) K.holder.counted (omega (arith, H, K.some)) K.holder.held in g (record { counted = K.holder.counted; held = subst (λ (z : ℕ). Holds (tile_of ws z) x y) q H }))
           (λ (a : y ≤ (tile_of ws m).bottom). high m u H a)
           (lt_or_ge (tile_of ws m).bottom y)
+
+-- ---- the answer of a test, at a tile that was read
+pub said_no_lem : (P : Tile → Type 0) {s t : Tile} {b : Bool} → Says b (P s) → s ≡ t → b ≡ false → P t → ⊥
+said_no_lem P {s} {t} {b} h e f p = (rw f at h) (subst P (sym e) p)

@@ -183,14 +183,15 @@ pub fn shift(work: &mut [u16], from: usize, to: usize)
     work.copy_within(at..4 + 9 * to, at + 9);
 }
 
-// Puts the tiles of t from j on behind the first m, word by word.
+// Puts the tiles of t from j on behind the first m, word by word: copy_from_slice would call memmove here, and the archive for C calls nothing
+// but memcpy and memset.
 pub fn append(t: Slots<'_>, j: usize, work: &mut [u16], m: usize)
     requires { (j ≤ t.count) × (4 + 9 * (m + (t.count - j)) ≤ length work.old) }
     ensures { Appended t.entry.words.now j t.entry.count work.old m work.new }
 {
-    let at = 4 + 9 * m;
-    let end = at + 9 * (t.count - j);
-    work[at..end].copy_from_slice(&t.words[4 + 9 * j..4 + 9 * t.count]);
+    for i in 0..9 * (t.count - j) {
+        work[4 + 9 * m + i] = t.words[4 + 9 * j + i];
+    }
 }
 
 // Puts t among the first n tiles, at its place.

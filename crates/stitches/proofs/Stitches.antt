@@ -111,6 +111,10 @@ module _ {ws us vs : List ℕ} {n i : ℕ} {t : Tile} {l : Links ℕ} (S : Stitc
         (lt_or_ge j i);
   }
 
+-- while stitches are set the tiles stay: they have a span, and are tight
+pub some_span : {ws us : List ℕ} {n w h i : ℕ} {t : Tile} → Tight ws n w h → i < n → StitchedTo ws n us i → t ≡ tile_of us i → (0 < t.right) × (0 < t.top)
+some_span {i = i} T u S e = subst (λ (z : Tile). (0 < z.right) × (0 < z.top)) (sym (e ∙ S.tile i)) (omega (arith, T.box i u))
+
 pub tight_still : {ws us : List ℕ} {n w h i : ℕ} → Tight ws n w h → StitchedTo ws n us i → Tight us n w h
 tight_still {ws} {us} {n} {w} {h} T S = record {
   box = λ j u. subst (λ (t : Tile). Box w h t) (sym (S.tile j)) (T.box j u);

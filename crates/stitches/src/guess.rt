@@ -8,14 +8,14 @@ use plane::words::word_at;
 use slots::slots::Slots;
 
 // The place of a column in a list by columns.
-fn column(x: u16) -> usize
+pub fn column(x: u16) -> usize
     ensures { result < 4096 }
 {
     usize::from(x) % 4096
 }
 
 // Word k of tile i, if there is such a tile.
-fn peek(tiles: Slots<'_>, i: u16, k: usize) -> Option<u16>
+pub fn peek(tiles: Slots<'_>, i: u16, k: usize) -> Option<u16>
     requires { k < 9 }
 {
     let j = usize::from(i);
@@ -27,7 +27,7 @@ fn peek(tiles: Slots<'_>, i: u16, k: usize) -> Option<u16>
 }
 
 // A guess at stitch k of tile i, of the first n.
-fn guess(work: &mut [u16], n: usize, i: u16, k: usize, v: u16)
+pub fn guess(work: &mut [u16], n: usize, i: u16, k: usize, v: u16)
     requires { (4 + 9 * n ≤ length work.old) × (5 ≤ k) × (k < 9) }
     ensures { SameTiles work.old work.new }
 {
@@ -38,7 +38,14 @@ fn guess(work: &mut [u16], n: usize, i: u16, k: usize, v: u16)
 }
 
 // Tile j lies on tile i and on those to the right of it up to its right end. The last of them.
-fn guess_under(work: &mut [u16], n: usize, starts: &[u16; 4096], i: u16, j: u16, right: u16) -> u16
+pub fn guess_under(
+    work: &mut [u16],
+    n: usize,
+    starts: &[u16; 4096],
+    i: u16,
+    j: u16,
+    right: u16,
+) -> u16
     requires { 4 + 9 * n ≤ length work.old }
     ensures { SameTiles work.old work.new }
 {
@@ -61,7 +68,7 @@ fn guess_under(work: &mut [u16], n: usize, starts: &[u16; 4096], i: u16, j: u16,
 }
 
 // The tile left of a tile that begins at row y and lies on tile i: up the left side of tile i to row y.
-fn guess_left(tiles: Slots<'_>, i: u16, y: u16) -> Option<u16> {
+pub fn guess_left(tiles: Slots<'_>, i: u16, y: u16) -> Option<u16> {
     let mut k = peek(tiles, i, 6)?;
     let mut top = peek(tiles, k, 3)?;
     // A while loop: each step goes to the tile above.
@@ -77,12 +84,9 @@ fn guess_left(tiles: Slots<'_>, i: u16, y: u16) -> Option<u16> {
 }
 
 // The tile left of tile t, of number j: the tile before, if it ends where t begins, or one beside tile i, which is under t.
-fn guess_beside(tiles: Slots<'_>, i: u16, j: u16, t: Tile) -> u16
-    requires { j < tiles.count }
-{
+pub fn guess_beside(tiles: Slots<'_>, i: u16, j: u16, t: Tile) -> u16 {
     let k = j.saturating_sub(1);
-    let before = tiles.nth(usize::from(k));
-    if before.right == t.left && before.bottom == t.bottom {
+    if peek(tiles, k, 2) == Some(t.left) && peek(tiles, k, 1) == Some(t.bottom) {
         return k;
     }
     guess_left(tiles, i, t.bottom).unwrap_or(NO_TILE)
@@ -90,7 +94,7 @@ fn guess_beside(tiles: Slots<'_>, i: u16, j: u16, t: Tile) -> u16
 
 // Guesses at the stitches of tile j, and at those that lead to it. starts has the last tile so far that begins at a column, and
 // under is the last tile under the tile before; the last tile under tile j.
-fn guess_at(work: &mut [u16], n: usize, starts: &mut [u16; 4096], under: u16, j: u16) -> u16
+pub fn guess_at(work: &mut [u16], n: usize, starts: &mut [u16; 4096], under: u16, j: u16) -> u16
     requires { (4 + 9 * n ≤ length work.old) × (j < n) }
     ensures { SameTiles work.old work.new }
 {

@@ -1,6 +1,6 @@
 // The stitches of tiles that stand in a slice: looked for, or taken over from the table before.
 #![tactic(auto)]
 
-mod guess;
+pub mod guess;
 pub mod restitch;
 pub mod stitch;

@@ -2,7 +2,6 @@
 // and n stand apart, here and in the other files: a struct that held the lent `&mut` slice would have to say in each contract that it still
 // holds that slice.
 ghost use Rattle.std.specs.Prelude.{◌≡◌, ◌+◌, ◌*◌, ◌<◌, ◌≤◌, length};
-ghost use Rattle.plane.specs.Words.{tile_of};
 ghost use Rattle.stitches.specs.Stitch.{Ends, StitchTo, Tight, LinksOf, PutLinks, SameTiles, StitchedTo};
 
 use crate::guess::guess_links;
@@ -41,14 +40,15 @@ pub(crate) fn stitch_to(tiles: Slots<'_>, square: Option<(u16, u16)>, k: u16, i:
     }
 }
 
-// The stitches of tile i. Its words have guesses at them. That the tiles are tight is asked here and below, and is no type's invariant: the words
-// change with each tile that is stitched, so a type over them would have to be made anew at each.
-pub(crate) fn links_of(tiles: Slots<'_>, w: u16, h: u16, i: usize) -> Links<u16>
+// The stitches of tile i, which is t. Its words have guesses at them. That the tiles are tight is asked here and below, and is no type's
+// invariant: the words change with each tile that is stitched, so a type over them would have to be made anew at each.
+pub fn links_of(tiles: Slots<'_>, w: u16, h: u16, i: usize, t: Tile) -> Links<u16>
     requires n_in_bounds { (i < tiles.count) × (tiles.count ≤ 65535) }
     requires tight { Tight tiles.words.now tiles.count w h }
-    ensures { LinksOf tiles.entry.words.now tiles.entry.count (tile_of tiles.entry.words.now i) result }
+    requires right_nonzero { (0 < t.right) × (0 < t.top) }
+    ensures { LinksOf tiles.entry.words.now tiles.entry.count t result }
 {
-    let to = ends_of(tiles.nth(i), w, h);
+    let to = ends_of(t, w, h);
     Links {
         lb: stitch_to(tiles, to.lb, word_at(tiles.words, i, 5), i),
         bl: stitch_to(tiles, to.bl, word_at(tiles.words, i, 6), i),
@@ -58,7 +58,7 @@ pub(crate) fn links_of(tiles: Slots<'_>, w: u16, h: u16, i: usize) -> Links<u16>
 }
 
 // Sets the stitches of tile i.
-pub(crate) fn put_links(work: &mut [u16], i: usize, l: Links<u16>)
+pub fn put_links(work: &mut [u16], i: usize, l: Links<u16>)
     requires { 4 + 9 * i + 9 ≤ length work.old }
     ensures { PutLinks work.old work.new i l }
 {
@@ -70,7 +70,7 @@ pub(crate) fn put_links(work: &mut [u16], i: usize, l: Links<u16>)
 }
 
 // The stitches of the first n tiles, from guesses at them.
-pub(crate) fn stitch_from(work: &mut [u16], n: usize, w: u16, h: u16)
+pub fn stitch_from(work: &mut [u16], n: usize, w: u16, h: u16)
     requires n_in_bounds { (4 + 9 * n ≤ length work.old) × (n ≤ 65535) }
     requires tight { Tight work.old n w h }
     ensures { StitchedTo work.old n work.new n }
@@ -80,7 +80,7 @@ pub(crate) fn stitch_from(work: &mut [u16], n: usize, w: u16, h: u16)
             words: work,
             count: n,
         };
-        let links = links_of(tiles, w, h, i);
+        let links = links_of(tiles, w, h, i, tiles.nth(i));
         put_links(work, i, links);
     }
 }

@@ -1,7 +1,7 @@
 -- What is covered: one square, a row, and the zone of the area and what is beside it.
 use Prim.Native.Nat.{ℕ, ◌+◌, ◌-◌, ◌≤◌, ◌<◌, min}
 use native.Mathlib.Omega.{arith}
-use mathlib.Core.Path.{◌≡◌, sym, ap}
+use mathlib.Core.Path.{◌≡◌, sym, ◌∙◌, ap, subst}
 use mathlib.Core.Logic.{⊎_elim}
 use mathlib.Core.List.{List}
 use Rattle.std.specs.Prelude.{None}
@@ -10,7 +10,7 @@ use Rattle.plane.specs.Picture.{Picture}
 use Rattle.plane.specs.Strips.{Holds, Strip}
 use Rattle.strips.specs.declared.cover.Spot.{Spot}
 use Rattle.brush.specs.Brush.{Upward}
-use Rattle.strips.specs.Cover.{Covered, CoveredBy, Grown, RowCovered, RowUnder, TooMany, Working}
+use Rattle.strips.specs.Cover.{Covered, CoveredBy, Grown, RowCovered, RowUnder, SpotOf, TooMany, Working}
 use Rattle.slots.specs.Slots.{Sought, WithTile}
 use Rattle.plane.proofs.Basics.{lt_or_ge}
 use Rattle.strips.proofs.Grows.{grown_covered, grown_then, grown_with, new_strip, not_all}
@@ -21,12 +21,12 @@ pub not_found : (ws : List ℕ) {n x y : ℕ} → Sought ws 0 n x y None → Cov
 not_found ws F d = F d.0 (omega arith) d.1 d.2
 
 -- the strip of a square that is not covered is put in
-pub covers_new : {w h : ℕ} {q : Picture} {ws vs : List ℕ} {n room x y : ℕ} {s : Tile} (near guess : ℕ) → Working w h q ws n room → n < room → Strip w h q s → Holds s x y → WithTile ws vs n s
-    → Covered w h q room ws n x y vs (record { count = n + 1; right = s.right; top = s.top; near = near; guess = guess })
-covers_new near guess C u S H W = record {
-  few = omega arith;
-  grown = grown_with C.part S (omega (arith, H)) W;
-  here = let d = W.new in (d.0, d.1, holds_at d.2 H, ap (λ (t : Tile). t.right) (sym d.2), ap (λ (t : Tile). t.top) (sym d.2));
+pub covers_new : {w h : ℕ} {q : Picture} {ws vs : List ℕ} {n room x y : ℕ} {s : Tile} {r : Spot} → SpotOf (n + 1) s r → Working w h q ws n room → n < room → Strip w h q s → Holds s x y → WithTile ws vs n s
+    → Covered w h q room ws n x y vs r
+covers_new {w} {h} {q} {ws} {vs} {n} {y = y} e C u S H W = record {
+  few = omega (arith, e.count);
+  grown = subst (λ (c : ℕ). Grown w h q (y + 1) ws n vs c) (sym e.count) (grown_with C.part S (omega (arith, H)) W);
+  here = let d = W.new in (d.0, omega (arith, d.1, e.count), holds_at d.2 H, e.right ∙ ap (λ (t : Tile). t.right) (sym d.2), e.top ∙ ap (λ (t : Tile). t.top) (sym d.2));
 }
 
 -- no room for one that is not covered: the strips are more than the room

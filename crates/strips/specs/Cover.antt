@@ -74,6 +74,12 @@ AllUnder ws n w y = (i z : ℕ) → i < w → z < y → CoveredBy ws n i z
 abbrev pub TooMany : ℕ → ℕ → Picture → ℕ → Type 0
 TooMany w h q room = room < length (tiles w h q)
 
+-- the spot is a number of tiles, and the right end and the top of a tile
+pub record SpotOf (n : ℕ) (s : Tile) (r : Spot) : Type 0 where
+  pub count : r.count ≡ n
+  pub right : r.right ≡ s.right
+  pub top : r.top ≡ s.top
+
 -- the tile that holds (x,y), by its right end and its top
 abbrev pub HeldTo : List ℕ → ℕ → ℕ → ℕ → ℕ → ℕ → Type 0
 HeldTo ws n x y right top = (j : ℕ) × (j < n) × Holds (tile_of ws j) x y × (right ≡ (tile_of ws j).right) × (top ≡ (tile_of ws j).top)

@@ -6,7 +6,7 @@
 ghost use Rattle.std.specs.Prelude.{IfSome, ◌≡◌, ◌+◌, ◌*◌, ◌-◌, ◌<◌, ◌≤◌, min, length};
 ghost use Rattle.plane.specs.Words.{count, Says};
 ghost use Rattle.brush.specs.Brush.{Near, wide, tall, goal_of};
-ghost use Rattle.strips.specs.Cover.{Untouched, LowTo, Kept, Working, RowUnder, AllUnder, Covers, CoversRow, CoversZone, Built};
+ghost use Rattle.strips.specs.Cover.{SpotOf, Untouched, LowTo, Kept, Working, RowUnder, AllUnder, Covers, CoversRow, CoversZone, Built};
 
 use brush::painting::Painting;
 use plane::tile::{Area, Tile};
@@ -21,6 +21,20 @@ pub struct Spot {
     pub top: u16,
     pub near: u16,
     pub guess: usize,
+}
+
+// The spot of n tiles and tile s, and where the next look-up begins.
+pub fn spot_of(n: usize, s: Tile, near: u16, guess: usize) -> Spot
+    ensures spot { SpotOf n s result }
+    ensures next { (result.near ≡ near) × (result.guess ≡ guess) }
+{
+    Spot {
+        count: n,
+        right: s.right,
+        top: s.top,
+        near,
+        guess,
+    }
 }
 
 // Does the tile not touch the area, by a side or a corner?
@@ -84,27 +98,14 @@ pub fn cover(p: &Painting<'_>, work: &mut [u16], room: usize, at: Spot, y: u16) 
     };
     let guess = tiles.under(at.guess, x, y);
     if let Some(i) = tiles.find_low(guess, x, y) {
-        let s = tiles.nth(i);
-        return Some(Spot {
-            count: at.count,
-            right: s.right,
-            top: s.top,
-            near,
-            guess,
-        });
+        return Some(spot_of(at.count, tiles.nth(i), near, guess));
     }
     if room <= at.count {
         return None;
     }
     let s = p.strip_at(near, x, y);
     insert(work, at.count, s);
-    Some(Spot {
-        count: at.count + 1,
-        right: s.right,
-        top: s.top,
-        near,
-        guess,
-    })
+    Some(spot_of(at.count + 1, s, near, guess))
 }
 
 // Has the squares of row y from the right of a spot up to e covered, and the lowest top of their tiles.

@@ -49,14 +49,17 @@ pub fn clear(work: &mut [u16])
     work.fill(0);
 }
 
-// The table t takes over the header and the n tiles that the working slice has. Where t had more tiles, their words become zero.
+// The table t takes over the header and the n tiles that the working slice has. Where t had more tiles, their words become zero. Word by word, as
+// in slots' append: copy_from_slice would call memmove here.
 fn adopt(t: &mut [u16], work: &[u16], n: usize)
     requires { Plane t.old × (length t.old ≡ length work.now) × (4 + 9 * n ≤ length t.old) }
     ensures { Cleared work.now t.new (4 + 9 * n) }
 {
     let end = 4 + 9 * n;
     let old = 4 + 9 * usize::from(t[0]);
-    t[..end].copy_from_slice(&work[..end]);
+    for i in 0..end {
+        t[i] = work[i];
+    }
     clear_to(t, end, old);
 }
 

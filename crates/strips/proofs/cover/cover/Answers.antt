@@ -15,4 +15,4 @@ insert-requires-clause-in_order_to c = let C = c.requires.working in let U = c.s
 
 pub returns-clause-covers : goal.returns-clause-covers
 returns-clause-covers c = let C = c.requires.working in let U = c.strip_at-s.ensures in
-    covers_new _ _ C c.if-room-at.false (cover_strip C U c.requires.row_under (not_found _ c.in_default.ensures)) U.steady.here c.insert.ensures
+    covers_new c.spot_of-2.ensures.spot C c.if-room-at.false (cover_strip C U c.requires.row_under (not_found _ c.in_default.ensures)) U.steady.here c.insert.ensures
