@@ -19,21 +19,31 @@ use Rattle.edges.specs.declared.turn.Turn.{Turn}
 use Rattle.edges.specs.Edge.{Marked, Steps, edge_at, hit, goes, goes_hit, turn}
 use Rattle.edges.specs.Near.{Ruled, flip_e, flip_w, hit_from, across, across_all, faces, edges_at, edges_to, edges_over, Forward, Between, Still, hits, swept, sweeps}
 use Rattle.edges.proofs.Truths.{four1, four2, four3, four4, split4, split8}
-use Rattle.edges.proofs.Marking.{keep, relabel, and_then, start, more, hit_none}
+use Rattle.edges.proofs.Marking.{keep, relabel, and_then, start, more, hit_none, goes_none}
 
 -- ---- one direction
 module _ (ks : List ℕ) (all : Bool) (t : Turn) (at : ℕ) (r : Rule) where
-  -- at the rim, and inside
-  pub from_rim : {m : List ℕ} → (83 ≤ at - t.wm → at - t.wm < 6641 → ⊥) → Marked (hit_from ks all t at r) m m
+  -- at the rim, by either end of it or by both, and inside
+  pub from_low : {m : List ℕ} → at - t.wm < 83 → Marked (hit_from ks all t at r) m m
   unfolding hit_from
-  from_rim out = keep (λ q. ⊎_elim
-      (λ (l : at - t.wm < 83). rw (lt-leb 83 (at - t.wm) l))
-      (λ (l : 83 ≤ at - t.wm). rw (le-ltb (at - t.wm) 6641 (⊎_elim (λ (h : at - t.wm < 6641). absurd (out l h)) (λ h. h) (lt_or_ge (at - t.wm) 6641)), and-false (leb 83 (at - t.wm))))
-      (lt_or_ge (at - t.wm) 83))
+  from_low l = keep (λ q. rw (lt-leb 83 (at - t.wm) l))
+
+  pub from_high : {m : List ℕ} → 6641 ≤ at - t.wm → Marked (hit_from ks all t at r) m m
+  unfolding hit_from
+  from_high l = keep (λ q. rw (le-ltb (at - t.wm) 6641 l, and-false (leb 83 (at - t.wm))))
+
+  pub from_rim : {m : List ℕ} → (83 ≤ at - t.wm → at - t.wm < 6641 → ⊥) → Marked (hit_from ks all t at r) m m
+  from_rim out = ⊎_elim
+      (λ (l : at - t.wm < 83). from_low l)
+      (λ (l : 83 ≤ at - t.wm). ⊎_elim (λ (h : at - t.wm < 6641). absurd (out l h)) (λ (h : 6641 ≤ at - t.wm). from_high h) (lt_or_ge (at - t.wm) 6641))
+      (lt_or_ge (at - t.wm) 83)
 
   here : 83 ≤ at - t.wm → at - t.wm < 6641 → (q : ℕ) → goes_hit ks all t (at - t.wm) r q ≡ hit_from ks all t at r q
   unfolding hit_from
   here a b q = rw (le-leb 83 (at - t.wm) a, lt-ltb (at - t.wm) 6641 b)
+
+  pub from_here : {m m₁ : List ℕ} → 83 ≤ at - t.wm → at - t.wm < 6641 → Marked (goes_hit ks all t (at - t.wm) r) m m₁ → Marked (hit_from ks all t at r) m m₁
+  from_here a b h = relabel h (here a b)
 
   -- where the rule has no edge, and where it lacks the direction
   from_none : edge_at ks r t (at - t.wm) ≡ false → (q : ℕ) → hit_from ks all t at r q ≡ false
@@ -41,8 +51,8 @@ module _ (ks : List ℕ) (all : Bool) (t : Turn) (at : ℕ) (r : Rule) where
   from_none e q = rw (hit_none ks r t (at - t.wm) e q, and-false (goes all r), and-false (leb 83 (at - t.wm) && ltb (at - t.wm) 6641))
 
   from_lacking : goes all r ≡ false → (q : ℕ) → hit_from ks all t at r q ≡ false
-  unfolding hit_from goes_hit
-  from_lacking e q = rw (e, and-false (leb 83 (at - t.wm) && ltb (at - t.wm) 6641))
+  unfolding hit_from
+  from_lacking e q = rw (goes_none ks r t (at - t.wm) all e q, and-false (leb 83 (at - t.wm) && ltb (at - t.wm) 6641))
 
   from_in : (q : ℕ) → hit_from ks all t at r q ≡ true → (83 ≤ at - t.wm) × (at - t.wm < 6641) × (goes_hit ks all t (at - t.wm) r q ≡ true)
   unfolding hit_from
@@ -52,11 +62,6 @@ module _ (ks : List ℕ) (all : Bool) (t : Turn) (at : ℕ) (r : Rule) where
         ltb-true (at - t.wm) 6641 (and_right (leb 83 (at - t.wm)) (ltb (at - t.wm) 6641) i),
         and_right (leb 83 (at - t.wm) && ltb (at - t.wm) 6641) (goes_hit ks all t (at - t.wm) r q) e,
       )
-
--- the first direction, inside
-pub from_here : (ks : List ℕ) (t : Turn) (at : ℕ) (r : Rule) {m m₁ : List ℕ} → 83 ≤ at - t.wm → at - t.wm < 6641 → Marked (hit ks r t (at - t.wm)) m m₁ → Marked (hit_from ks true t at r) m m₁
-unfolding goes goes_hit
-from_here ks t at r a b h = relabel h (here ks true t at r a b)
 
 -- ---- a fourway rule, and a one-way rule
 -- a fourway rule has each direction

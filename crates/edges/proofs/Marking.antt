@@ -15,7 +15,7 @@ use Rattle.rules.specs.Some.{some}
 use Rattle.rules.specs.Sets.{member}
 use Rattle.rules.proofs.Searches.{some_suc}
 use Rattle.edges.specs.declared.turn.Turn.{Turn}
-use Rattle.edges.specs.Edge.{Marked, one, barred, deep, past, edge_at, turns_at, hit}
+use Rattle.edges.specs.Edge.{Marked, one, barred, deep, past, edge_at, turns_at, hit, goes, goes_hit}
 
 -- ---- markings
 -- nothing is marked
@@ -118,3 +118,12 @@ module _ (ks : List ℕ) (r : Rule) (t : Turn) (at : ℕ) where
       → Marked (deep ks r.allowed r.d t.wp t.wm at 0) m m₁ → Marked (past ks r t at r.ce) m₁ m₂ → Marked (hit ks r t at) m m₂
   unfolding hit
   turned {b} {c} e f g h a p = relabel (and_then a p) (λ q. rw (sym e ∙ f, sym g ∙ h))
+
+  -- ---- for a rule that lacks the direction, and one that has it
+  pub goes_none : (all : Bool) → goes all r ≡ false → (q : ℕ) → goes_hit ks all t at r q ≡ false
+  unfolding goes_hit
+  goes_none all e q = rw e
+
+  pub goes_on : (all : Bool) {m m₁ : List ℕ} → goes all r ≡ true → Marked (hit ks r t at) m m₁ → Marked (goes_hit ks all t at r) m m₁
+  unfolding goes_hit
+  goes_on all e a = relabel a (λ q. rw e)

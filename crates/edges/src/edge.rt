@@ -2,13 +2,22 @@
 ghost use Rattle.std.specs.Prelude.{◌≡◌, ◌+◌, ◌*◌, ◌≤◌, ◌<◌, length, get_or};
 ghost use Rattle.edges.specs.Edge.{Marked, Small, Steps, one, deep, past, edge_at, turns_at, hit};
 
-use crate::turn::{Crossing, Turn};
+use crate::turn::Crossing;
+pub use crate::turn::Turn;
 use rules::rule::{Rule, member};
 use std::marker::Model;
 
+// The type at an index.
+pub fn kind_at(kinds: &[u8; 6724], at: usize) -> u16
+    requires { at < 6724 }
+    ensures { result ≡ get_or kinds.now at 0 }
+{
+    u16::from(kinds[at])
+}
+
 // The types of a local picture's squares, row by row, each below 32. A contract sees a Picture as their list.
 #[derive(Drop)]
-pub struct Picture<'a> {
+pub(crate) struct Picture<'a> {
     kinds: &'a [u8; 6724],
 }
 
@@ -25,20 +34,20 @@ impl<'a> Model for Picture<'a> {
 
 impl<'a> Picture<'a> {
     // The picture of these types.
-    pub fn of(kinds: &'a [u8; 6724]) -> Picture<'a>
+    pub(crate) fn of(kinds: &'a [u8; 6724]) -> Picture<'a>
         requires { Small kinds.now }
         ensures { result ≡ kinds.now }
     {
         Picture { kinds }
     }
 
-    // The type at an index.
-    pub fn kind(&self, at: usize) -> u16
+    // The type at an index, which is below 32 as all are.
+    pub(crate) fn kind(&self, at: usize) -> u16
         requires { at < 6724 }
         ensures value { result ≡ get_or self.now at 0 }
         ensures small { Small self.now }
     {
-        u16::from(self.kinds[at])
+        kind_at(self.kinds, at)
     }
 
     // Marks the square x - y, if there is one and its type is not allowed.
@@ -95,7 +104,7 @@ impl<'a> Picture<'a> {
 
     // Marks what the rule's edge at a crossing forbids, if there is one.
     #[inline(always)]
-    pub fn mark_edge(&self, marks: &mut [u8; 6724], r: Rule, c: Crossing)
+    pub(crate) fn mark_edge(&self, marks: &mut [u8; 6724], r: Rule, c: Crossing)
         requires { r.ce ≤ 16 }
         ensures { Marked (hit self.now r c.turn c.at) marks.old marks.new }
     {

@@ -2,6 +2,6 @@
 #![tactic(auto)]
 
 mod cells;
-mod edge;
+pub mod edge;
 pub mod near;
 pub mod turn;

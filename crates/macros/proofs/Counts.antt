@@ -2,7 +2,7 @@
 use Prim.Native.Nat.{ℕ, zero, suc, ◌+◌, ◌*◌, ◌^◌, ◌<◌}
 use mathlib.Core.Bool.{Bool, true, false, not, cond, ◌&&◌}
 use mathlib.Core.List.{[], ◌∷◌}
-use mathlib.Core.Path.{◌≡◌, refl, sym, ◌∙◌, ap₂}
+use mathlib.Core.Path.{◌≡◌, refl, sym, ◌∙◌, ap, ap₂}
 use native.Mathlib.Omega.{arith}
 use native.Mathlib.Nat.{add-mul, zero-mul}
 use lib.ListN.{length, length-append}
@@ -59,3 +59,8 @@ width_below t s d e =
 pub width_count_lem : (t s d reason : ℕ) → width_sound t s d ≡ true → length (width t s d reason) ≡ width_count t s
 unfolding width
 width_count_lem t s d reason e = rows_count t (others t s) s (record { d = d; allowed = s; corners = s; reason = reason }) (others_below t s) (width_below t s d e)
+
+-- the rules, with the set that the code makes
+pub width_rows_lem : (t s d reason : ℕ) {f : ℕ} → f ≡ others t s → width t s d reason ≡ rows t t f s (record { d = d; allowed = s; corners = s; reason = reason })
+unfolding width
+width_rows_lem t s d reason e = ap (λ x. rows t t x s (record { d = d; allowed = s; corners = s; reason = reason })) (sym e)

@@ -8,7 +8,7 @@ ghost use Rattle.macros.specs.Expansion.{Widened, Spaced, Appended};
 ghost use Rattle.macros.specs.Both.{rules_of_both};
 
 use crate::pairs::Pairs;
-pub use crate::pairs::put_rule;
+pub use crate::pairs::{Made, put_rule};
 use crate::wanted::{Spacing, Width};
 use plane::answer::Refusal;
 use rules::list::list_tests;

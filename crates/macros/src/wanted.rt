@@ -46,7 +46,7 @@ impl Width {
     }
 
     // Its rules: type 1 outside S, type 2 in S.
-    #[tactic(auto, using(crate::proofs::Counts::width_below, rules::proofs::Sets::others_below), unfolding(crate::specs::Macros::width))]
+    #[tactic(auto, using(crate::proofs::Counts::width_below, crate::proofs::Counts::width_rows_lem, rules::proofs::Sets::others_below))]
     pub fn pairs(self) -> Pairs
         requires { (self.t ≤ 16) × (width_sound self.t self.set self.d ≡ true) }
         ensures { rules_of result ≡ width self.t self.set self.d self.reason }

@@ -126,7 +126,13 @@ after_stamped p a rows = refl
 pub painted_as : (c : ℕ) (ws vs : List ℕ) {q s : Picture} (r : Option ℕ) → q ≡ s → PaintedOver c ws q vs r → PaintedOver c ws s vs r
 painted_as c ws vs r e P = subst (λ (p : Picture). PaintedOver c ws p vs r) e P
 
--- ---- how many tiles: those of the rebuild
+-- ---- how many tiles
+-- a table that was made has so many, or it had no room for them
+pub tiles_of_lem : (c : ℕ) (ws vs : List ℕ) (q : Picture) (r : Option ℕ) → PaintedOver c ws q vs r → TilesAfter c ws q r
+tiles_of_lem c ws vs q (Some n) P = record { room = P.room; number = P.number }
+tiles_of_lem c ws vs q None P = P.full
+
+-- and so have the tiles of the rebuild
 pub tiles_as : (c : ℕ) (ws vs : List ℕ) {p q : Picture} (r : Option ℕ) → p ≡ q → Built (width ws) (height ws) p c vs r → TilesAfter c ws q r
 tiles_as c ws vs {p} {q} r e B = subst (λ (s : Picture). TilesAfter c ws s r) e (counted r B)
   where

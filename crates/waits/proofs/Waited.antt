@@ -187,21 +187,21 @@ least_idle ws i {t} (Some m) s l k = let z = (rw s at k) in record {
   found = let f = l.found in (f.0, omega (arith, f.1), f.2, f.3);
 }
 
--- a tile of a plane begins left of 4096 and below it
-key_small : {ws : List ℕ} {i : ℕ} → Plane ws → i < count ws → key_of (tile_of ws i) < 65536
-key_small {ws} {i} P l = let k = P.boxes.box i l in omega (arith, k.wide, k.inside, k.tall, k.under, P.header.sizes.wide_most, P.header.sizes.tall_most)
+-- a tile of a plane begins left of 4096 and below it, so its number is small
+pub key_small : {ws : List ℕ} {i r : ℕ} {t : Tile} → Plane ws → i < count ws → t ≡ tile_of ws i → r ≡ key_of t → r < 65536
+key_small {ws} {i} {r} P l s e = let e : r ≡ key_of (tile_of ws i) = rw s at e in let k = P.boxes.box i l in omega (arith, e, k.wide, k.inside, k.tall, k.under, P.header.sizes.wide_most, P.header.sizes.tall_most)
 
 -- or waits, the first that does
-pub least_first : {ws : List ℕ} {i r : ℕ} {t : Tile} → Plane ws → i < count ws → t ≡ tile_of ws i → LeastOf ws i None → (t.kind ≡ 0 → ⊥) → r ≡ key_of t → Least ws (i + 1) r
-least_first {ws} {i} {r} {t} P b s l n e = let e : r ≡ key_of (tile_of ws i) = rw s at e in let n : word ws i 4 ≡ 0 → ⊥ = rw s at n in record {
-  small = rw e (key_small P b);
+pub least_first : {ws : List ℕ} {i r : ℕ} {t : Tile} → r < 65536 → t ≡ tile_of ws i → LeastOf ws i None → (t.kind ≡ 0 → ⊥) → r ≡ key_of t → Least ws (i + 1) r
+least_first {ws} {i} {r} {t} b s l n e = let e : r ≡ key_of (tile_of ws i) = rw s at e in let n : word ws i 4 ≡ 0 → ⊥ = rw s at n in record {
+  small = b;
   each = λ j u k. ⊎_elim (λ (v : j < i). absurd (k (l j v))) (λ (v : i ≤ j). let q : j ≡ i = omega arith in rw q (omega (arith, e))) (lt_or_ge j i);
   found = (i, omega arith, n, e);
 }
 
 -- or one more
-pub least_more : {ws : List ℕ} {i m r : ℕ} {t : Tile} → Plane ws → i < count ws → t ≡ tile_of ws i → LeastOf ws i (Some m) → (t.kind ≡ 0 → ⊥) → r ≡ key_of t → Least ws (i + 1) (min r m)
-least_more {ws} {i} {m} {r} {t} P b s l n e = let e : r ≡ key_of (tile_of ws i) = rw s at e in let n : word ws i 4 ≡ 0 → ⊥ = rw s at n in record {
+pub least_more : {ws : List ℕ} {i m r : ℕ} {t : Tile} → t ≡ tile_of ws i → LeastOf ws i (Some m) → (t.kind ≡ 0 → ⊥) → r ≡ key_of t → Least ws (i + 1) (min r m)
+least_more {ws} {i} {m} {r} {t} s l n e = let e : r ≡ key_of (tile_of ws i) = rw s at e in let n : word ws i 4 ≡ 0 → ⊥ = rw s at n in record {
   small = omega (arith, l.small);
   each = λ j u k. ⊎_elim
       (λ (v : j < i). let b = l.each j v k in omega arith)
