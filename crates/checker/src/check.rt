@@ -2,7 +2,7 @@
 ghost use Rattle.std.specs.Prelude.{◌≡◌};
 ghost use Rattle.plane.specs.Answers.{refusal_number};
 ghost use Rattle.sheet.specs.Answers.{ready_number, ready_place};
-ghost use Rattle.sheet.specs.Layout.{lent};
+ghost use Rattle.sheet.specs.Layout.{lent, tables};
 ghost use Rattle.sweep.specs.Lending.{layout_of, Kept};
 ghost use Rattle.checker.specs.Check.{Checked};
 ghost use Rattle.checker.specs.Answers.{check_error, error_number, check_number, check_place, check_done, check_left};
@@ -104,18 +104,25 @@ pub fn run_pieces(
 }
 
 // The tests of check: lengths (1), tables (3), rules (4).
-pub fn check_tests(lent: &Lent<'_>, rules: RuleList<'_>) -> Result<(), SheetError>
-    ensures { CheckTested (layout_of lent.now) lent.now.work.now rules.entry.words.now rules.entry.used (ready_number result) (ready_place result) }
+pub fn check_tests(layout: Layout<'_>, work: &[u16], rules: RuleList<'_>) -> Result<(), SheetError>
+    ensures { CheckTested (tables layout.entry) work.now rules.entry.words.now rules.entry.used (ready_number result) (ready_place result) }
 {
-    if lent.work.len() != lent.material.len() {
+    if work.len() != layout.material.len() {
         return Err(SheetError::Lengths);
     }
+    layout.ready(rules)
+}
+
+// The same tests of what a run is lent, which they only read.
+fn lent_tests(lent: &Lent<'_>, rules: RuleList<'_>) -> Result<(), SheetError>
+    ensures { CheckTested (layout_of lent.now) lent.now.work.now rules.entry.words.now rules.entry.used (ready_number result) (ready_place result) }
+{
     let layout = Layout {
         material: lent.material,
         errors: lent.errors,
         waiting: lent.waiting,
     };
-    layout.ready(rules)
+    check_tests(layout, lent.work, rules)
 }
 
 // Check, but for clearing the working room.
@@ -123,7 +130,7 @@ fn check_tables(lent: &mut Lent<'_>, rules: RuleList<'_>, n: usize) -> Result<Pr
     ensures checked { CheckedBut (layout_of lent.old) lent.old.work.now rules.entry.words.now rules.entry.used n (check_number result) (check_place result) (check_done result) (check_left result) (layout_of lent.new) }
     ensures kept { Kept lent.old lent.new }
 {
-    check_tests(lent, rules)?;
+    lent_tests(lent, rules)?;
     run_pieces(lent, rules, n)
 }
 

@@ -16,7 +16,7 @@ pub enum Keyword {
 
 impl Keyword {
     // The keyword that a word is, byte for byte.
-    #[tactic(auto, using(text::proofs::Words::same_lengths), unfolding(crate::specs::Command::keyword_in, text::specs::Word::sameb))]
+    #[tactic(auto, using(std::proofs::lemmas::Grind::common_steps, text::proofs::Words::same_lengths, crate::proofs::Keywords::report_spelt, crate::proofs::Keywords::spacing_spelt), unfolding(crate::specs::Command::keyword_in, text::specs::Word::sameb))]
     pub fn of(word: &[u8]) -> Option<Keyword>
         ensures { result ≡ keyword_of word.now }
     {

@@ -6,21 +6,26 @@ ghost use Rattle.text.specs.Part.{parts_left};
 use std::marker::Model;
 use text::number::number_in;
 
-// The numbers of a line, eight at most. A contract sees them as a list.
-#[derive(Drop)]
+// The numbers of a line, eight at most. A contract sees them as a list. The words behind the first `count` are zero: so the list says what a Numbers holds, as Copy asks.
+#[derive(Clone, Copy)]
 pub struct Numbers {
     words: [u16; 8],
     count: usize,
 }
 
 impl Model for Numbers {
-    ghost use Rattle.std.specs.Prelude.{List, ℕ, ◌≤◌, take};
+    ghost use Rattle.std.specs.Prelude.{List, ℕ, take, length};
+    ghost use Rattle.text.specs.Padding.{Padded, padded, padded_back, padded_length};
 
     ghost Value = { List ℕ };
 
     ghost view = { λ n. take n.count n.words };
 
-    ghost invariant = { λ n. n.count ≤ 8 };
+    ghost invariant = { λ n. Padded 8 n.count n.words };
+
+    ghost inverse = { λ v. record { words = padded 8 v; count = length v } };
+
+    ghost inverse_ok = { λ n h i. record { words = padded_back h i; count = padded_length h i } };
 }
 
 impl Numbers {

@@ -5,3 +5,4 @@ pub mod Numbers
 pub mod Puts
 pub mod Decimals
 pub mod Scripts
+pub mod Paddings

@@ -5,22 +5,27 @@ ghost use Rattle.text.specs.Line.{Reads};
 
 use std::marker::Model;
 
-// The first `count` of `bytes` are the line's; no count where it is too long.
-#[derive(Drop)]
+// The first `count` of `bytes` are the line's; no count where it is too long. All other bytes are zero: so the line's bytes say what a Line holds, as Copy asks.
+#[derive(Clone, Copy)]
 pub struct Line {
     bytes: [u8; 200],
     count: Option<usize>,
 }
 
 impl Model for Line {
-    ghost use Rattle.std.specs.Prelude.{Option, List, ℕ, ◌≤◌, take, length};
-    ghost use Rattle.std.specs.Option.{option_map, IfSome};
+    ghost use Rattle.std.specs.Prelude.{Option, List, [], ℕ, take, length};
+    ghost use Rattle.std.specs.Option.{option_map, unwrap_or};
+    ghost use Rattle.text.specs.Padding.{Padded, padded, some_back, some_length};
 
     ghost Value = { Option (List ℕ) };
 
     ghost view = { λ l. option_map (λ n. take n l.bytes) l.count };
 
-    ghost invariant = { λ l. IfSome l.count (λ n. n ≤ 200) };
+    ghost invariant = { λ l. Padded 200 (unwrap_or l.count 0) l.bytes };
+
+    ghost inverse = { λ v. record { bytes = padded 200 (unwrap_or v []); count = option_map length v } };
+
+    ghost inverse_ok = { λ l h i. record { bytes = some_back l.count h i; count = some_length l.count h i } };
 }
 
 impl Line {
@@ -43,7 +48,11 @@ impl Line {
                 self.bytes[count] = b;
                 Some(count + 1)
             }
-            _ => None,
+            Some(_) => {
+                self.bytes = [0u8; 200];
+                None
+            }
+            None => None,
         };
     }
 
