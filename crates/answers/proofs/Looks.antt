@@ -20,6 +20,7 @@ use Rattle.checker.specs.declared.check.Progress.{Progress}
 use Rattle.checker.specs.declared.check.CheckError.{CheckError}
 use Rattle.sheet.specs.declared.report.Found.{Found}
 use Rattle.sheet.specs.declared.report.ReportError.{ReportError}
+use Rattle.sheet.specs.declared.report.ReportError.TheVariants.{Lengths, NoTable, BadRule, Place, Full}
 use Rattle.std.specs.Result.{MatchResult, IsErrAnd}
 use Rattle.std.proofs.lemmas.Result.{err_from_is_err_and}
 use Rattle.plane.specs.declared.answer.Refusal.{Refusal}
@@ -78,14 +79,27 @@ pub mapped_ok : (r : Result Found ReportError) (m : Result Found Refusal) {f : F
 mapped_ok (Ok x) m c e = cc
 mapped_ok (Err d) m c e = let p = err_from_is_err_and m c in let q = p.1 in cc
 
+pub mapped_not : (r : Result Found ReportError) (m : Result Found Refusal) {why : Refusal} → MatchResult r (λ x. m ≡ Ok x) (λ e. IsErrAnd m (λ y. refusal_number y ≡ error_number e)) → m ≡ Err why → (f : Found) → r ≡ Ok f → ⊥
+mapped_not (Ok x) m c e f o = cc
+mapped_not (Err d) m c e f o = cc
+
+-- what is not found has a number
+pub positive : (r : Result Found ReportError) → ((f : Found) → r ≡ Ok f → ⊥) → 0 < report_number r
+positive (Ok f) o = absurd (o f refl)
+positive (Err Lengths) o = omega arith
+positive (Err NoTable) o = omega arith
+positive (Err (BadRule i)) o = omega arith
+positive (Err Place) o = omega arith
+positive (Err Full) o = omega arith
+
 -- an area in the window, and one that is not
 found : (b : Bool) {k : ℕ} (s x y : Reply) → k ≤ 0 → k ≡ cond b 0 6 → s ≡ x → s ≡ cond b x y
 found true s x y u e p = p
 found false s x y u e p = absurd (omega (arith, e))
 
-none : (b : Bool) {k : ℕ} (x : Reply) (line : ℕ) → 0 < k → k ≡ cond b 0 6 → reply.No k line ≡ cond b x (reply.No 6 line)
+none : (b : Bool) {k : ℕ} (x : Reply) (line : ℕ) → 0 < k → k ≡ cond b 0 6 → (k ≡ 6) × (reply.No k line ≡ cond b x (reply.No 6 line))
 none true x line u e = absurd (omega (arith, e))
-none false x line u e = ap (λ (n : ℕ). reply.No n line) e
+none false x line u e = (e, ap (λ (n : ℕ). reply.No n line) e)
 
 -- does the area lie in the window
 abbrev inside : Inside → Area → Bool
@@ -113,6 +127,6 @@ module _ (d : Inside) (a : Area) (line : ℕ) (K : Kept d) (ready : d.ready ≡ 
       found (inside d a) (reply.Report (cond f.settled 1 0) f.squares f.tiles) (found_reply (findings (layout_of d) (halo (rules_of d.rules d.used)) a [])) (reply.No 6 line) (omega arith) (report_number_lem Q)
       (ap found_reply Q.outcome.leaves ∙ ap (λ (k : ℕ). found_reply (findings (layout_of d) k a [])) (halo_is d.rules d.used))
 
-  pub report_none : {n k place : ℕ} {f : Findings} → n ≡ k → 0 < k → Reported (layout_of d) d.rules d.used a out n place f → reply.No k line ≡ reported_on (model_of d) line a
+  pub report_none : {n k place : ℕ} {f : Findings} → n ≡ k → 0 < k → Reported (layout_of d) d.rules d.used a out n place f → (k ≡ 6) × (reply.No k line ≡ reported_on (model_of d) line a)
   unfolding reported_on
   report_none e u R = none (inside d a) (found_reply (findings (layout_of d) (halo (rules_of d.rules d.used)) a [])) line u (sym e ∙ report_number_lem R)

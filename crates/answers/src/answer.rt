@@ -12,8 +12,8 @@ use rules::rule::Rule;
 
 // A command after an accepted `new`, each by its own function.
 fn obey(desk: &mut Desk, command: Command) -> Result<Reply, Refused>
-    requires { (desk.old.ready ≡ true) × (kinds_of desk.old ≤ 16) }
-    ensures { (line : ℕ) → (desk.new, told result line) ≡ obeyed desk.old line command }
+    requires { (desk.old.model.ready ≡ true) × (kinds_of desk.old.model ≤ 16) }
+    ensures { (line : ℕ) → (desk.new.model, told result line) ≡ obeyed desk.old.model line command }
 {
     match command {
         Command::New { w, h, t } => desk.new_window(w, h, t),
@@ -59,7 +59,7 @@ fn obey(desk: &mut Desk, command: Command) -> Result<Reply, Refused>
 // What a line comes to: before an accepted `new` any line but a `new` is out of turn, and a line that is no command has none.
 #[tactic(auto, unfolding(desk::specs::Model::answered))]
 fn outcome(desk: &mut Desk, command: Option<Command>) -> Result<Reply, Refused>
-    ensures { (line : ℕ) → (desk.new, told result line) ≡ answered desk.old line command }
+    ensures { (line : ℕ) → (desk.new.model, told result line) ≡ answered desk.old.model line command }
 {
     match (desk.ready, command) {
         (false, Some(Command::New { w, h, t })) => desk.new_window(w, h, t),
@@ -71,7 +71,7 @@ fn outcome(desk: &mut Desk, command: Option<Command>) -> Result<Reply, Refused>
 
 // The reply to a line, and the desk afterwards. Not a public call.
 pub fn answer(desk: &mut Desk, line: u64, command: Option<Command>) -> Reply
-    ensures { (desk.new, result) ≡ answered desk.old line command }
+    ensures { (desk.new.model, result) ≡ answered desk.old.model line command }
 {
     match outcome(desk, command) {
         Ok(reply) => reply,

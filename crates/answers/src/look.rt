@@ -31,7 +31,7 @@ fn check_reply(ran: Result<Progress, CheckError>) -> Reply
 
 // check n: the lowest waiting piece, n times or until none waits.
 pub fn check_pieces(desk: &mut Desk, n: u16) -> Reply
-    ensures { desk.old.ready ≡ true → (desk.new, result) ≡ checked_by desk.old n }
+    ensures { desk.old.model.ready ≡ true → (desk.new.model, result) ≡ checked_by desk.old.model n }
 {
     let rules = RuleList {
         words: &desk.rules,
@@ -49,7 +49,7 @@ pub fn check_pieces(desk: &mut Desk, n: u16) -> Reply
 
 // report on an area, whose tiles fit the listing: only the place may be refused.
 pub fn report_area(desk: &Desk, a: Area) -> Result<Reply, Refused>
-    ensures { desk.now.ready ≡ true → (line : ℕ) → told result line ≡ reported_on desk.now line a }
+    ensures { desk.now.model.ready ≡ true → (line : ℕ) → told result line ≡ reported_on desk.now.model line a }
 {
     let layout = Layout {
         material: &desk.material,

@@ -15,7 +15,7 @@ use Rattle.rules.specs.declared.rule.Rule.{Rule}
 use Rattle.macros.specs.Expansion.{RuleList, Expanded, macro_refusals, appended, refused}
 use Rattle.rules.specs.Some.{Every}
 use Rattle.rules.specs.Vetting.{ListLength, KindsIn}
-use Rattle.rules.specs.Words.{rules_of, rule_words, sound}
+use Rattle.rules.specs.Words.{rules_of, rule_words}
 use Rattle.replies.specs.declared.reply.Reply.TheVariants as reply
 use Rattle.std.specs.Prelude.{Ok, Err}
 use Rattle.desk.specs.declared.state.Refused.{Refused}
@@ -23,7 +23,7 @@ use Rattle.desk.specs.declared.state.Refused.TheVariants.{OutOfTurn}
 use Rattle.desk.specs.declared.state.Desk.TheInside.{Inside}
 use Rattle.desk.specs.Answers.{may_rule}
 use Rattle.desk.specs.Kept.{layout_of, model_of, Kept}
-use Rattle.desk.specs.Model.{Model, kinds_of, said, added}
+use Rattle.desk.specs.Model.{Model, said, added}
 use Rattle.desk.specs.Tests.{first_no}
 use Rattle.desk.proofs.Decides.{Decides, decided, passed, test_is, leb_is}
 use Rattle.desk.proofs.Draws.{list_length, said_no}
@@ -119,8 +119,8 @@ module _ (d : Inside) (r : Rule) (line : ℕ) (ok : Bool) where
       (ap₂ (λ (a b : Bool). first_no (add_tests a b (not (d.painted)))) e (room u) ∙ ap (λ (c : Bool). first_no (add_tests true true (not c))) p) refl
 
 -- a full list, as the check looks for it
-pub full_comes : (d : Inside) (r : Rule) (line : ℕ) {m : Model} → model_of d ≡ m → sound (kinds d.material) r ≡ true → 512 ≤ d.used → (m, reply.No 7 line) ≡ added m line (sound (kinds_of m) r) (r ∷ [])
-full_comes d r line {m} e o u = subst (λ (x : Model). (x, reply.No 7 line) ≡ added x line (sound (kinds_of x) r) (r ∷ [])) e (rule_full d r line (sound (kinds d.material) r) o u)
+pub full_comes : (d : Inside) (r : Rule) (line : ℕ) {m : Model} → model_of d ≡ m → (ok : Bool) → ok ≡ true → 512 ≤ d.used → (m, reply.No 7 line) ≡ added m line ok (r ∷ [])
+full_comes d r line e ok o u = subst (λ (x : Model). (x, reply.No 7 line) ≡ added x line ok (r ∷ [])) e (rule_full d r line ok o u)
 
 module _ (d : Inside) (r : Rule) (K : Kept d) {vs : List ℕ} (u : d.used < 512) (g : vs ≡ sets d.rules (8 * d.used) (rule_words r)) where
   behind : rules_of vs (d.used + 1) ≡ rules_of d.rules d.used ++ (r ∷ [])

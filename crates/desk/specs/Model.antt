@@ -31,6 +31,13 @@ pub record Model : Type 0 where
   pub layout : Layout
   pub rules : List rules.Rule
 
+-- what a contract sees of a desk: its model, and what says nothing of it, the working room and the list with how many of its rules are used
+pub record Known : Type 0 where
+  pub model : Model
+  pub work : List ℕ
+  pub list : List ℕ
+  pub used : ℕ
+
 -- a table of 400 tiles before anything is written to it
 abbrev pub zeros : List ℕ
 zeros = replicate 3604 0

@@ -12,7 +12,7 @@ use replies::reply::Reply;
 impl Desk {
     // new W H T: starts afresh, with no rules and no paint.
     pub fn new_window(&mut self, w: u16, h: u16, t: u16) -> Result<Reply, Refused>
-        ensures { (line : ℕ) → (self.new, told result line) ≡ opened self.old line w h t }
+        ensures { (line : ℕ) → (self.new.model, told result line) ≡ opened self.old.model line w h t }
     {
         create(
             &mut self.material,
@@ -30,7 +30,7 @@ impl Desk {
 
     // paint: the area of the material, and the area waiting.
     pub fn paint(&mut self, a: Area, kind: u16) -> Result<Reply, Refused>
-        ensures { self.old.ready ≡ true → (line : ℕ) → (self.new, told result line) ≡ painted_by self.old line a kind }
+        ensures { self.old.model.ready ≡ true → (line : ℕ) → (self.new.model, told result line) ≡ painted_by self.old.model line a kind }
     {
         paint(
             &mut self.material,

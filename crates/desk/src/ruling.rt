@@ -25,8 +25,8 @@ impl Desk {
     // rule: one rule put behind the used ones.
     #[tactic(auto, using(crate::proofs::Rulings::full_comes))]
     pub fn add_rule(&mut self, r: Rule) -> Result<Reply, Refused>
-        requires { kinds_of self.old ≤ 16 }
-        ensures { self.old.ready ≡ true → (line : ℕ) → (self.new, told result line) ≡ added self.old line (sound (kinds_of self.old) r) (r ∷ []) }
+        requires { kinds_of self.old.model ≤ 16 }
+        ensures { self.old.model.ready ≡ true → (line : ℕ) → (self.new.model, told result line) ≡ added self.old.model line (sound (kinds_of self.old.model) r) (r ∷ []) }
     {
         if !r.is_sound(self.material[3]) {
             return Err(Refused::By(Refusal::NoRule));
@@ -43,7 +43,7 @@ impl Desk {
     // width S d reason: the macro's rules behind the used ones. Its refusals go before that after a paint, when the used rules stay as they
     // are, whatever was written behind them.
     pub fn add_width(&mut self, set: u16, d: u16, reason: u16) -> Result<Reply, Refused>
-        ensures { self.old.ready ≡ true → (line : ℕ) → (self.new, told result line) ≡ added self.old line (width_sound (kinds_of self.old) set d) (width (kinds_of self.old) set d reason) }
+        ensures { self.old.model.ready ≡ true → (line : ℕ) → (self.new.model, told result line) ≡ added self.old.model line (width_sound (kinds_of self.old.model) set d) (width (kinds_of self.old.model) set d reason) }
     {
         let used = width(&mut self.rules, self.used, self.material[3], set, d, reason)?;
         may_rule(self.painted)?;
@@ -60,7 +60,7 @@ impl Desk {
         touch: u16,
         reason: u16,
     ) -> Result<Reply, Refused>
-        ensures { self.old.ready ≡ true → (line : ℕ) → (self.new, told result line) ≡ added self.old line (spacing_sound (kinds_of self.old) a b d touch) (spacing (kinds_of self.old) a b d touch reason) }
+        ensures { self.old.model.ready ≡ true → (line : ℕ) → (self.new.model, told result line) ≡ added self.old.model line (spacing_sound (kinds_of self.old.model) a b d touch) (spacing (kinds_of self.old.model) a b d touch reason) }
     {
         let t = self.material[3];
         let used = spacing(&mut self.rules, self.used, t, a, b, d, touch, reason)?;

@@ -8,9 +8,10 @@ use plane::answer::Refusal;
 use std::marker::Model;
 
 // Three tables with room for 400 tiles, a working room as long, a list with room for 512 rules, and how many of them are used; was a `new`
-// accepted, and a paint since? A contract sees a Desk as its model (specs/Model): of the list only the used rules count, and nothing of the
-// working room. Two flags and no enum of three stages, since `answer` promises of a desk with any two.
-#[derive(Drop)]
+// accepted, and a paint since? A contract sees a Desk as its model (specs/Model), in which of the list only the used rules count, and nothing of
+// the working room; beside it stand those words (Known), as Copy asks. Two flags and no enum of three stages, since `answer` promises of a desk
+// with any two.
+#[derive(Clone, Copy)]
 pub struct Desk {
     pub material: [u16; 3604],
     pub errors: [u16; 3604],
@@ -23,15 +24,17 @@ pub struct Desk {
 }
 
 impl Model for Desk {
-    ghost use Rattle.desk.specs.Model.{Model};
+    ghost use Rattle.desk.specs.Model.{Known};
 
-    ghost Value = { Model };
+    ghost Value = { Known };
 
-    ghost use Rattle.desk.specs.Kept.{model_of, Kept};
+    ghost use Rattle.desk.specs.Kept.{known_of, Kept, desk_of};
 
-    ghost view = { model_of };
+    ghost view = { known_of };
 
     ghost invariant = { Kept };
+
+    ghost inverse = { desk_of };
 }
 
 // Why a command is refused: by the call that it makes, since it is out of turn, or since it is no command.
@@ -67,7 +70,7 @@ impl Desk {
     // A desk before any command.
     #[tactic(auto, unfolding(crate::specs::Model::blank))]
     pub fn new() -> Desk
-        ensures { result ≡ blank }
+        ensures { result.model ≡ blank }
     {
         Desk {
             material: [0; 3604],

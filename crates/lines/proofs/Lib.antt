@@ -1,3 +1,4 @@
 -- Laws of the lines.
 pub mod Chunks
+pub mod Steps
 pub mod Feeds

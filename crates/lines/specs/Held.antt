@@ -9,7 +9,7 @@ use Rattle.lines.specs.Session.{Model, ended, answer_to, stepped, spoken, fed, o
 -- the state holds the session m
 pub record Holds (s : State) (m : Model) : Type 0 where
   pub reads : Reads s.text m.bytes
-  pub desk : s.desk ≡ m.desk
+  pub desk : s.desk.model ≡ m.desk
   pub lines : s.lines ≡ m.lines
 
 -- a line ended

@@ -62,6 +62,10 @@ begun (b ∷ l) = true
 abbrev pub last_words : Model → List ℕ
 last_words m = cond (begun m.bytes) (said_to m) []
 
+-- what it holds then: the last line has ended
+abbrev pub closed : Model → Model
+closed m = cond (begun m.bytes) (ended m) m
+
 -- all that the program writes on an input
 abbrev pub written : List ℕ → List ℕ
 written input = output start input ++ last_words (fed start input)

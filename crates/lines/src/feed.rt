@@ -2,7 +2,7 @@
 ghost use Rattle.std.specs.Prelude.{List, ◌≡◌, ℕ, ◌+◌, ◌*◌, ◌≤◌, ◌<◌, ◌^◌, length, take};
 ghost use Rattle.text.specs.Line.{Reads};
 ghost use Rattle.text.specs.Put.{Room};
-ghost use Rattle.lines.specs.Session.{Model, begun, last_words};
+ghost use Rattle.lines.specs.Session.{Model, begun, last_words, closed};
 ghost use Rattle.lines.specs.Held.{Holds, Stepped, Took};
 
 use crate::state::State;
@@ -43,10 +43,11 @@ impl State {
         }
     }
 
-    // Puts the reply to a last line that lacks its line end, as if it had one, at the start of `out`; how many bytes it is.
-    pub fn finish(mut self, out: &mut [u8]) -> usize
-        requires { (self.lines + 1 < 2 ^ 64) × (80 ≤ length out.old) }
-        ensures { (result ≤ 80) × ((m : Model) → Holds self m → take result out.new ≡ last_words m) }
+    // Puts the reply to a last line that lacks its line end, as if it had one, at the start of `out`; how many bytes it is. Then that line has ended.
+    pub fn finish(&mut self, out: &mut [u8]) -> usize
+        requires { (self.old.lines + 1 < 2 ^ 64) × (80 ≤ length out.old) }
+        ensures said { (result ≤ 80) × ((m : Model) → Holds self.old m → take result out.new ≡ last_words m) }
+        ensures after { (m : Model) → Holds self.old m → Holds self.new (closed m) }
     {
         if !self.begun() {
             return 0;

@@ -12,7 +12,7 @@ use text::line::Line;
 use text::script::Script;
 
 // The bytes of the line so far, the desk, and how many lines have ended.
-#[derive(Drop)]
+#[derive(Clone, Copy)]
 pub struct State {
     pub text: Line,
     pub desk: Desk,

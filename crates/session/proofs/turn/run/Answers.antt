@@ -16,4 +16,4 @@ loop-turn-preserved g c = running_at_on c.loop-turn.invariant (sym c.is_open.ens
 pub returns : goal.returns
 returns g c =
     let far : c.loop-turn.session.wire.open ≡ true → 2 ^ 48 ≤ c.loop-turn._turn = λ o. elim c.loop-turn-test.branch [ else-loop-turn-test w ↦ omega arith | then-loop-turn-test+then-not-is_open w ↦ absurd (false≢true (sym w.if-not-is_open.true ∙ (w.is_open.ensures ∙ o))) ] in
-    conversed_at c.loop-turn.invariant far c.finish-n.ensures.1 c.say.ensures.says c.say.ensures.put
+    conversed_at c.loop-turn.invariant far c.finish-n.ensures.said.1 c.say.ensures.says c.say.ensures.put
