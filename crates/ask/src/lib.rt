@@ -3,4 +3,4 @@
 
 pub mod handle;
 pub mod query;
-mod side;
+pub mod side;

@@ -70,9 +70,11 @@ impl Border {
 
 // Lists the neighbours of tile i on a side, the first most of them; how many there are.
 pub fn list_side(table: &Table<'_>, i: u16, side: Side, out: &mut [u16], most: usize) -> usize
-    requires { (i < count table.now) × (count table.now ≤ 65535) × (most ≤ length out.old) }
+    requires { (i < count table.now) × (most ≤ length out.old) }
     ensures { ListedTo (neighbours_of table.now (tile_of table.now i) (side_number side)) most out.old out.new result }
 {
+    // A tile's number is below a count that is a word, so none is 65535, which stands for no tile.
+    prove!(i < table.count());
     let border = Border {
         tile: table.tile(i),
         side,

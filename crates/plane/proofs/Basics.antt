@@ -3,10 +3,11 @@ use Prim.Native.Nat.{ℕ, ◌*◌, ◌≤◌, ◌<◌}
 use native.Mathlib.Nat.{mul-le-mul_left}
 use native.Mathlib.Omega.{arith}
 use mathlib.Core.Bool.{Bool, true, false, ◌&&◌}
-use mathlib.Core.Path.{◌≡◌, refl, sym}
+use mathlib.Core.Path.{◌≡◌, refl, sym, ◌∙◌, ap}
 use mathlib.Core.Logic.{◌⊎◌, inl, inr, ⊎_elim}
 use lib.Dec.{ltb, eqb}
 use borrow.Author.Tests.{ltb-true, ltb-false, eqb-true, eqb-false}
+use Rattle.plane.specs.declared.tile.Tile.{Tile}
 
 pub bool_cases : (b : Bool) → (b ≡ true) ⊎ (b ≡ false)
 bool_cases true = inl refl
@@ -35,6 +36,17 @@ and_both false b p q = p
 
 pub area_bound : (a b : ℕ) → a ≤ 4096 → b ≤ 4096 → a * b ≤ 16777216
 area_bound a b p q = omega (arith, mul-le-mul_left a q)
+
+-- two tiles, given by numbers, agree in a field
+module _ {a a' b b' b'' : Tile} (e : b ≡ b') (f : b' ≡ b'') (g : a ≡ a') where
+  pub same_left : b''.left ≡ a'.left → b.left ≡ a.left
+  same_left h = ap (λ (t : Tile). t.left) (e ∙ f) ∙ (h ∙ ap (λ (t : Tile). t.left) (sym g))
+
+  pub same_right : b''.right ≡ a'.right → b.right ≡ a.right
+  same_right h = ap (λ (t : Tile). t.right) (e ∙ f) ∙ (h ∙ ap (λ (t : Tile). t.right) (sym g))
+
+  pub same_kind : b''.kind ≡ a'.kind → b.kind ≡ a.kind
+  same_kind h = ap (λ (t : Tile). t.kind) (e ∙ f) ∙ (h ∙ ap (λ (t : Tile). t.kind) (sym g))
 
 -- what is not true is false, and the other way round
 pub is_false : (b : Bool) → (b ≡ true → ⊥) → b ≡ false

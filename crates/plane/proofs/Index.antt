@@ -3,7 +3,7 @@ use Prim.Native.Nat.{ℕ, zero, suc, ◌+◌, ◌-◌, ◌≤◌, ◌<◌}
 use native.Mathlib.Omega.{arith}
 use mathlib.Core.Bool.{true, false}
 use mathlib.Core.Path.{◌≡◌, refl, sym, ◌∙◌, ap}
-use mathlib.Core.Logic.{inl, inr, ⊎_elim}
+use mathlib.Core.Logic.{◌⊎◌, inl, inr, ⊎_elim}
 use mathlib.Core.List.Memᴰ
 use mathlib.Core.List.{List, [], ◌∷◌, ◌++◌, Memᴰ}
 use lib.ListN.{length, get_or, length-append, get_or-append}
@@ -14,7 +14,7 @@ use Rattle.plane.specs.declared.tile.Tile.{Tile}
 use Rattle.plane.specs.Picture.{joined, holds, number_from}
 use Rattle.plane.specs.Strips.{Holds, Precedes, Ordered}
 use Rattle.plane.specs.Words.{up_to, kind_in}
-use Rattle.plane.proofs.Basics.{bool_cases, lt_or_ge, and_left, and_right, and_both}
+use Rattle.plane.proofs.Basics.{bool_cases, tf, lt_or_ge, and_left, and_right, and_both}
 use Rattle.plane.proofs.Lists.{joined_mem, mem_joined, ordered_joined}
 
 abbrev pub no_tile : Tile
@@ -114,6 +114,9 @@ pub true_holds : (t : Tile) (x y : ℕ) → Holds t x y → holds t x y ≡ true
 unfolding holds
 true_holds t x y h =
     and_both _ _ (le-leb _ _ h.from_left) (and_both _ _ (lt-ltb _ _ h.to_right) (and_both _ _ (le-leb _ _ h.from_bottom) (lt-ltb _ _ h.to_top)))
+
+pub holds_dec : (t : Tile) (x y : ℕ) → Holds t x y ⊎ (Holds t x y → ⊥)
+holds_dec t x y = ⊎_elim (λ e. inl (holds_true t x y e)) (λ e. inr (λ h. tf (sym (true_holds t x y h) ∙ e))) (bool_cases (holds t x y))
 
 holds_false : (t : Tile) (x y : ℕ) → (Holds t x y → ⊥) → holds t x y ≡ false
 holds_false t x y h = ⊎_elim (λ e. absurd (h (holds_true t x y e))) (λ e. e) (bool_cases (holds t x y))

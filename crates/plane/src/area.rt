@@ -9,7 +9,15 @@ use crate::table::Table;
 use crate::tile::{Area, Tile};
 
 // Lists tile t, of number i, if it is of the type and meets the area; the next place.
-fn list_tile(t: Tile, kind: u16, a: Area, i: u16, out: &mut [u16], m: usize, most: usize) -> usize
+pub fn list_tile(
+    t: Tile,
+    kind: u16,
+    a: Area,
+    i: u16,
+    out: &mut [u16],
+    m: usize,
+    most: usize,
+) -> usize
     requires { (most ≤ length out.old) × (m ≤ 65535) }
     ensures { (Lists (cond (meets t kind a) (i ∷ []) []) most out.old m out.new result) × (result ≤ m + 1) }
 {

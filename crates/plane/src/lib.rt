@@ -2,7 +2,7 @@
 #![tactic(auto)]
 
 pub mod answer;
-mod area;
+pub mod area;
 pub mod fill;
 mod find;
 pub mod listing;

@@ -1,6 +1,6 @@
 // The tiles of a table together: by the stitches, the left border and the right side and top of each tile; and the areas add up to the window's, so no two tiles share a square.
 ghost use Rattle.std.specs.Prelude.{◌≡◌, ◌-◌, ◌*◌, ◌<◌, ◌≤◌};
-ghost use Rattle.plane.specs.Words.{Says, Tells, count, width, height};
+ghost use Rattle.plane.specs.Words.{Says, Tells, Header, count, width, height};
 ghost use Rattle.plane.specs.Plane.{Stitches, Boxes, InOrder, ZeroAfter, Plane};
 ghost use Rattle.vet.specs.Checks.{Column, Side, Upper, Framed, Frames, areas};
 
@@ -23,23 +23,16 @@ pub fn squares(a: Tile) -> usize
     usize::from(a.right - a.left) * usize::from(a.top - a.bottom)
 }
 
-impl<'a> Sewn<'a> {
-    // Such tiles.
-    pub fn of(tiles: Listed<'a>) -> Sewn<'a>
-        requires { (Boxes tiles.words.now) × (Stitches tiles.words.now) }
-        ensures { result.tiles ≡ tiles.entry }
-    {
-        Sewn { tiles }
-    }
-
+impl<'a> Listed<'a> {
     // The tiles at the left border stand on one another, from the bottom to the top.
     #[tactic(auto, using(crate::proofs::Checked::border_tells))]
     pub fn column(self) -> bool
-        ensures { Tells result (Column self.entry.tiles.words.now) (Plane self.entry.tiles.words.now) }
+        requires { Boxes self.words.now }
+        ensures { Tells result (Column self.entry.words.now) (Plane self.entry.words.now) }
     {
         let mut edge: u16 = 0;
-        for i in 0..self.tiles.count() {
-            let a = self.tiles.tile(i);
+        for i in 0..self.count() {
+            let a = self.tile(i);
             if a.left == 0 {
                 if a.bottom != edge {
                     return false;
@@ -47,7 +40,37 @@ impl<'a> Sewn<'a> {
                 edge = a.top;
             }
         }
-        edge == self.tiles.height()
+        edge == self.height()
+    }
+
+    // The squares of all tiles.
+    pub fn area_sum(self) -> usize
+        requires { (Header self.words.now) × (Boxes self.words.now) }
+        ensures { result ≡ areas self.entry.words.now (count self.entry.words.now) }
+    {
+        let mut sum: usize = 0;
+        for i in 0..self.count() {
+            sum += squares(self.tile(i));
+        }
+        sum
+    }
+
+    // Do the areas add up to the window's?
+    pub fn fills(self) -> bool
+        requires { (Header self.words.now) × (Boxes self.words.now) }
+        ensures { Says result (areas self.entry.words.now (count self.entry.words.now) ≡ width self.entry.words.now * height self.entry.words.now) }
+    {
+        self.area_sum() == usize::from(self.width()) * usize::from(self.height())
+    }
+}
+
+impl<'a> Sewn<'a> {
+    // Such tiles.
+    pub fn of(tiles: Listed<'a>) -> Sewn<'a>
+        requires { (Boxes tiles.words.now) × (Stitches tiles.words.now) }
+        ensures { result.tiles ≡ tiles.entry }
+    {
+        Sewn { tiles }
     }
 
     // Down the right side of tile i: the tiles there begin where it ends, and have other types.
@@ -103,30 +126,12 @@ impl<'a> Sewn<'a> {
         (0..self.tiles.count()).all(|i| self.framed(i))
     }
 
-    // The squares of all tiles.
-    pub fn area_sum(self) -> usize
-        ensures { result ≡ areas self.entry.tiles.words.now (count self.entry.tiles.words.now) }
-    {
-        let mut sum: usize = 0;
-        for i in 0..self.tiles.count() {
-            sum += squares(self.tiles.tile(i));
-        }
-        sum
-    }
-
-    // Do the areas add up to the window's?
-    pub fn fills(self) -> bool
-        ensures { Says result (areas self.entry.tiles.words.now (count self.entry.tiles.words.now) ≡ width self.entry.tiles.words.now * height self.entry.tiles.words.now) }
-    {
-        self.area_sum() == usize::from(self.tiles.width()) * usize::from(self.tiles.height())
-    }
-
     // The tiles together.
     #[tactic(auto, using(crate::proofs::Checked::checks_plane, crate::proofs::Checked::plane_areas))]
     pub fn tiled(self) -> bool
-        requires { (InOrder self.tiles.words.now) × (ZeroAfter self.tiles.words.now) }
+        requires { (Header self.tiles.words.now) × (InOrder self.tiles.words.now) × (ZeroAfter self.tiles.words.now) }
         ensures { Says result (Plane self.entry.tiles.words.now) }
     {
-        self.column() && self.frames() && self.fills()
+        self.tiles.column() && self.frames() && self.tiles.fills()
     }
 }

@@ -1,6 +1,6 @@
 // The test of a table: is a slice of words the strip table of a picture?
 #![tactic(auto)]
 
-mod frames;
-mod tiles;
+pub mod frames;
+pub mod tiles;
 pub mod vet;

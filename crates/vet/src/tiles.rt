@@ -8,13 +8,13 @@ use plane::side::Side;
 use plane::tile::Tile;
 use plane::words::{in_range, nth_tile, word_at};
 
-// Words that have all the tiles that they count, behind a header in its ranges. The look-ups are those of plane's Table, which are for words that
-// passed the whole test; one type below both would not tell the callers of a Table that they look at a plane.
+// Words that have all the tiles that they count. The look-ups are those of plane's Table, which are for words that passed the whole test; one
+// type below both would not tell the callers of a Table that they look at a plane. What the steps before have found, Header and Boxes, is asked
+// by the steps that need it, and held by no type: the others are for words that fail it too.
 #[derive(Clone, Copy)]
 pub struct Listed<'a> {
     words: &'a [u16],
     ghost whole: { Sized words.now },
-    ghost header: { Header words.now },
 }
 
 // Are the header's numbers in their ranges?
@@ -35,28 +35,28 @@ pub fn boxed(a: Tile, w: u16, h: u16, k: u16) -> bool
 impl<'a> Listed<'a> {
     // The tiles of such words.
     pub fn of(words: &'a [u16]) -> Listed<'a>
-        requires { (Sized words.now) × (Header words.now) }
+        requires { Sized words.now }
         ensures { result.words ≡ words.entry }
     {
         Listed { words }
     }
 
     // How many tiles there are.
-    pub fn count(self) -> u16
+    pub(crate) fn count(self) -> u16
         ensures { result ≡ count self.entry.words.now }
     {
         self.words[0]
     }
 
     // The window's width.
-    pub fn width(self) -> u16
+    pub(crate) fn width(self) -> u16
         ensures { result ≡ width self.entry.words.now }
     {
         self.words[1]
     }
 
     // The window's height.
-    pub fn height(self) -> u16
+    pub(crate) fn height(self) -> u16
         ensures { result ≡ height self.entry.words.now }
     {
         self.words[2]
@@ -70,7 +70,7 @@ impl<'a> Listed<'a> {
     }
 
     // Word k of tile i.
-    pub fn word(self, i: u16, k: usize) -> u16
+    pub(crate) fn word(self, i: u16, k: usize) -> u16
         requires { (i < count self.words.now) × (k < 9) }
         ensures { result ≡ word self.entry.words.now i k }
     {
@@ -78,7 +78,7 @@ impl<'a> Listed<'a> {
     }
 
     // Tile i.
-    pub fn tile(self, i: u16) -> Tile
+    pub(crate) fn tile(self, i: u16) -> Tile
         requires { i < count self.words.now }
         ensures { result ≡ tile_of self.entry.words.now i }
     {
@@ -136,7 +136,6 @@ impl<'a> Listed<'a> {
         }
     }
 
-    // Boxes is asked here and of stitches, since it is what the test before has found; from then on Sewn holds it.
     // Do the four stitches of tile i name tiles that touch it? In a plane they meet its sides, so three comparisons do where a square takes four.
     pub fn stitched(self, i: u16) -> bool
         requires { (i < count self.words.now) × (Boxes self.words.now) }

@@ -2,7 +2,7 @@ use native.Mathlib.Omega.{arith}
 use mathlib.Core.Path.{refl}
 use Rattle.plane.specs.Picture.{sum_to}
 use Rattle.plane.proofs.Counting.{sum_more}
-use Rattle.vet.proofs.frames.Sewn.area_sum.Goals as goal
+use Rattle.vet.proofs.tiles.Listed.area_sum.Goals as goal
 
 pub loop-i-init : goal.loop-i-init
 unfolding sum_to
