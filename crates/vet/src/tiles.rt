@@ -9,8 +9,8 @@ use plane::tile::Tile;
 use plane::words::{in_range, nth_tile, word_at};
 
 // Words that have all the tiles that they count. The look-ups are those of plane's Table, which are for words that passed the whole test; one
-// type below both would not tell the callers of a Table that they look at a plane. What the steps before have found, Header and Boxes, is asked
-// by the steps that need it, and held by no type: the others are for words that fail it too.
+// type below both would not tell the callers of a Table that they look at a plane. Header and Boxes, which other steps find, are asked by each
+// step that needs them, and are not in the type: the steps that need neither are for words that fail them too.
 #[derive(Clone, Copy)]
 pub struct Listed<'a> {
     words: &'a [u16],
