@@ -1,4 +1,4 @@
-// Two words compared.
+// Two words compared: std's `==`, kept as a call of its own since docs/STATEMENTS.md names it.
 ghost use Rattle.std.specs.Prelude.{◌≡◌};
 ghost use Rattle.text.specs.Word.{sameb};
 
